@@ -48,11 +48,10 @@ use Rattle.block.specs.Panels.{AtRest}
 use Rattle.steps.specs.Shared.{EntryIs, sizes_value}
 use Rattle.steps.specs.declared.call.Call.{Call}
 use Rattle.steps.specs.declared.Sizes.{Sizes as CodeSizes}
-use Rattle.steps.proofs.AtRestLaws.{settled-as, settled-up, settled-low}
+use Rattle.steps.proofs.AtRestLaws.{settled-as, settled-up, settled-low, in_order}
 use Rattle.steps.proofs.EvictStepLaws.{rest-settled}
 use Rattle.block.proofs.PanelLaws.{same_keys, link-key}
 use Rattle.steps.proofs.RoomsLaws.{kth-link}
-use Rattle.steps.proofs.StandsLaws.{in_order}
 use Rattle.steps.proofs.TakeInLaws.{byte-small}
 use Rattle.announcements.specs.SendGraft.Asks.{asked_first, missing_left}
 use Rattle.announcements.specs.OnSendGraftTimer.{send_graft_bytes}
@@ -379,7 +378,7 @@ module _ (call : Call) (id : Id) (h : Head) (xs : List ℕ) (rest : AtRest (stat
       ∙ both-bytes q b (id_of id) r.round.0 (Scheduled h.settings.config.graft_timeout_2.0 (SendGraft (id_of id)))
     where
       peer : peer_at st r.link ≡ q
-      peer = link-key h xs r.link (peer_at st r.link) refl ∙ sym eq
+      peer = link-key st r.link ∙ sym eq
 
       same : peer_at st r.link ≡ peer_at later r.link
       same = sym (settled-as at st (λ (x : State). peer_at x r.link) refl)

@@ -15,33 +15,22 @@ use Rattle.protocol.specs.Links.{Mark, eager, Links, is_neighbour, quiet_in, mar
 use Rattle.protocol.specs.State.{State}
 use Rattle.block.specs.LinkSteps.{link_at, peer_at}
 use Rattle.block.specs.View.{state_of}
-use Rattle.block.specs.Sound.{Sound}
 use Rattle.block.specs.declared.head.Head.{Head}
 use Rattle.block.proofs.LinkLaws.{count-links}
-use Rattle.block.proofs.NoteLaws.{count-queue, count-dropped}
 use Rattle.block.specs.Panels.{state}
 use Rattle.block.specs.Views.{shown}
 use Rattle.block.specs.declared.panel.Panel.{Panel}
 use Rattle.block.specs.declared.panel.View.{View}
 
-module _ (h : Head) (xs : List ℕ) where
-  pub link-below : (i : ℕ) → i < length (state_of h xs).links → i < h.live.links
-  link-below i q = omega (arith, count-links h xs)
+pub link-below : (h : Head) (xs : List ℕ) (i : ℕ) → i < length (state_of h xs).links → i < h.live.links
+link-below h xs i q = omega (arith, count-links h xs)
 
-  -- the peer of a link
-  pub link-key : (i p : ℕ) → p ≡ peer_at (state_of h xs) i → p ≡ (link_at (state_of h xs) i).key
-  link-key i p e = e ∙ get_or-map (λ (e : Entry Mark). e.key) (state_of h xs).links i (entry 0 eager)
-
-  pub queue-room : Sound h xs → length (state_of h xs).queue < (state_of h xs).limits.Q → h.live.queued < h.limits.queued
-  unfolding state_of
-  queue-room sound q = omega (arith, count-queue h xs sound, q)
-
-  pub dropped-room : Sound h xs → length (state_of h xs).dropped < (state_of h xs).limits.D → h.live.dropped < h.limits.dropped
-  unfolding state_of
-  dropped-room sound q = omega (arith, count-dropped h xs sound, q)
+-- the peer of a link
+pub link-key : (s : State) (i : ℕ) → peer_at s i ≡ (link_at s i).key
+link-key s i = get_or-map (λ (e : Entry Mark). e.key) s.links i (entry 0 eager)
 
 -- a panel that is read
-pub same-state : (p : Panel) (v : View) → v.head ≡ p.head → v.block.now ≡ p.block.now → shown v ≡ state p
+pub same-state : (p : Panel) (v : View) → v.head.now ≡ p.head → v.block.now ≡ p.block.now → shown v ≡ state p
 same-state p v e f = ap (λ (h : Head). state_of h v.block.now) e ∙ ap (state_of p.head) f
 
 -- the peer of a link, which may get another mark

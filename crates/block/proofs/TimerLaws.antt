@@ -1,8 +1,9 @@
--- The rows of graft timers: what another list of them does to the state.
+-- The rows of graft timers: what another list of them does to the state, and a mark by where its identifier stands.
 -- Assumes nothing.
-use Rattle.std.proofs.Common.{◌≡◌, sym, ap, ◌∙◌, subst, List, ℕ, ◌≤◌, arith, lit<, length}
+use Rattle.std.proofs.Common.{◌≡◌, refl, sym, ap, ◌∙◌, subst, List, ℕ, ◌≤◌, ◌<◌, arith, lit<, length}
+use Rattle.std.proofs.lemmas.List.Edits.{length-insert}
 use Rattle.std.specs.declared.ops.Range.{Range}
-use Rattle.storage.specs.Rows.Sorted.{key_of}
+use Rattle.storage.specs.Rows.Sorted.{Here, Between, key_of}
 use Rattle.storage.specs.Tables.Listed.{listed}
 use Rattle.storage.proofs.TablesLaws.Listed.{length-listed}
 use Rattle.protocol.specs.State.{State, Limits, with_graft_timers}
@@ -11,12 +12,34 @@ use Rattle.block.specs.View.{state_of, view_of, limits_of, id_at, timers_in}
 use Rattle.block.specs.Sound.{Laid, Sound}
 use Rattle.block.specs.Goes.{Goes}
 use Rattle.block.specs.Heads.{with_timer_count}
+use Rattle.block.specs.TimerSteps.{timer_also, timer_marked}
 use Rattle.block.specs.declared.head.Head.{Head}
+use Rattle.block.proofs.KeyMembers.{member-here, member-between}
+use Rattle.block.proofs.KeyPlaces.{insert_key-between}
 use Rattle.block.proofs.Lent.{lent_at, given_back, lent-table, lent-frame, lent-long}
 
 pub count-timers : (h : Head) (xs : List ℕ) → length (state_of h xs).timers.graft ≡ h.live.timers
 unfolding state_of timers_in
 count-timers h xs = length-listed (id_at 0) 32 h.live.timers (table (limits_of h.limits) 10 xs)
+
+pub timer-room : (h : Head) (xs : List ℕ) → length (state_of h xs).timers.graft < (state_of h xs).limits.T → h.live.timers < h.limits.timers
+unfolding state_of
+timer-room h xs q = omega (arith, count-timers h xs, q)
+
+-- a mark, where there is one and where there is none
+module _ (id i : ℕ) (s : State) where
+  pub marked-there : Here s.timers.graft id i → timer_marked id s ≡ s
+  unfolding timer_marked
+  marked-there h = rw (member-here id i s.timers.graft h) refl
+
+  pub marked-new : Between s.timers.graft id i → timer_marked id s ≡ timer_also id s
+  unfolding timer_marked
+  marked-new b = rw (member-between id i s.timers.graft b) refl
+
+  pub marked-room : Between s.timers.graft id i → length (timer_marked id s).timers.graft ≤ s.limits.T → length s.timers.graft < s.limits.T
+  marked-room b room =
+      let more = ap (λ (t : State). length t.timers.graft) (marked-new b) ∙ ap length (insert_key-between id i s.timers.graft b) ∙ length-insert s.timers.graft i id b.within in
+      omega (arith, room, more)
 
 -- the table that is lent
 module _ (h : Head) (xs : List ℕ) (r : Range ℕ) (hr : r ≡ span (limits_of h.limits) 10) where

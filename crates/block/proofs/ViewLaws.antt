@@ -19,7 +19,7 @@ module _ (l : Links) (i : ℕ) where
   unfolding links_from
   left-more b = rw (add-one) (ap (links_from i) (drop-cons l i (entry 0 eager) b))
 
-pub length-links : (i : ℕ) (l : Links) → length (links_from i l) ≡ length l
+length-links : (i : ℕ) (l : Links) → length (links_from i l) ≡ length l
 unfolding links_from
 length-links i [] = refl
 length-links i (e ∷ l) = ap suc (length-links (suc i) l)

@@ -34,8 +34,7 @@ use Rattle.steps.specs.Shared.{sizes_value}
 use Rattle.block.specs.Views.{shown}
 use Rattle.steps.specs.declared.Sizes.{Sizes as CodeSizes}
 use Rattle.block.specs.declared.panel.View.{View}
-use Rattle.steps.proofs.AtRestLaws.{stands_of}
-use Rattle.steps.proofs.SettledLaws.FewLaws.{fit-down, stands-whole}
+use Rattle.steps.proofs.SettledLaws.FewLaws.{fit-down, rest-whole}
 use Rattle.machine.specs.Core.{is_payload, counted_as}
 use Rattle.machine.specs.Decided.{bytes_after, last_decided, size_fits, decided}
 use Rattle.decide.specs.Counted.{raised, counts_after_call}
@@ -65,7 +64,7 @@ unfolding state_of
 max-of v = refl
 
 pub shown-whole : (v : View) → AtRest (shown v) → whole (shown v) ≡ true
-shown-whole v rest = stands-whole v.head.now v.block.now (stands_of v.head.now v.block.now v.sound rest)
+shown-whole v rest = rest-whole v.head.now v.block.now v.sound rest
 
 -- (13) the test of the code, of a state with the same limits
 pub fitted : (v : View) (t : State) (z : CodeSizes) (b : Bool) → t.limits ≡ (shown v).limits → sizes_value z ≡ sizes_of t → b ≡ fit_sizes (limits_of v.head.now.limits) (sizes_value z) → b ≡ fits t

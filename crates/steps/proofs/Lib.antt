@@ -1,4 +1,3 @@
-pub mod StandsLaws
 pub mod RoomsLaws
 pub mod SettledLaws
 pub mod EvictAgainLaws

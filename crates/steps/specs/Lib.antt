@@ -1,4 +1,3 @@
-pub mod Stands
 pub mod Rooms
 pub mod Shared
 pub mod Settled

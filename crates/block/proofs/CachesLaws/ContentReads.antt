@@ -1,40 +1,31 @@
--- One cached message: start and length of its content, and its round, as the view reads them.
+-- One cached message: its content, and its round, as the view reads them.
 -- Assumes nothing.
-use Rattle.std.proofs.Common.{◌≡◌, sym, ap, ◌∙◌, subst, List, [], ℕ, zero, suc, ◌+◌, ◌*◌, ◌≤◌, ◌<◌, arith, lit<, length, take, get_or, drop-drop}
+use Rattle.std.proofs.Common.{◌≡◌, sym, ap, ◌∙◌, List, [], ℕ, ◌+◌, ◌*◌, ◌≤◌, ◌<◌, arith, lit<, length, get_or}
 use lib.ListN.{length-map}
 use Rattle.storage.specs.Lists.Map.{Entry, entry}
 use Rattle.storage.specs.Rows.Part.{part}
 use Rattle.storage.specs.Rows.Digits.{le_nat}
-use Rattle.storage.proofs.RowsLaws.Rows.{get_d_rows, length-rows}
 use Rattle.storage.specs.Refs.Refs.{Ref, ref, ref_of, refs, places}
 use Rattle.storage.proofs.RefsLaws.Places.{get_or-map-in, length-refs, ref-at}
 use Rattle.time_cache.specs.TimeCache.{Timed}
-use Rattle.time_cache.specs.Tables.{ExpiryRow, expiry_row_of, expiry_rows, row_at, entry_of, cache_of, refs_at}
+use Rattle.time_cache.specs.Tables.{ExpiryRow, expiry_rows, row_at, entry_of, cache_of}
 use Rattle.time_cache.specs.Steps.{ref_at}
-use Rattle.time_cache.proofs.ExpiryLaws.{row-at}
+use Rattle.time_cache.proofs.ExpiryLaws.{length-expiry_rows}
 use Rattle.protocol.specs.State.{Limits, Cached}
 use Rattle.block.specs.Layout.{place, table}
-use Rattle.block.specs.View.{state_of, limits_of, four_at, half_at, content_of, cached_of, cached_in}
-use Rattle.block.specs.Sound.{Adjoining, done, next, Sound}
+use Rattle.block.specs.View.{state_of, limits_of, half_at, content_of, cached_of, cached_in}
+use Rattle.block.specs.Sound.{Sound}
 use Rattle.block.specs.declared.head.Head.{Head}
 use Rattle.block.proofs.Tables.{field_in}
 use Rattle.block.proofs.RowLaws.{part_in}
-use Rattle.block.specs.TimeCaches.{cached_cache}
-use Rattle.block.specs.Caches.CachedReads.{cached_at, ContentIs}
-use Rattle.block.specs.declared.caches.cached.Extent.{Extent}
+use Rattle.block.specs.Caches.CachedReads.{cached_at, row_of}
+use Rattle.block.specs.Contents.Starts.{start_of, len_of}
 use Rattle.block.proofs.CachesLaws.CacheLaws.{refs-in}
+use Rattle.block.proofs.CachesLaws.CachedLaws.{count-cached}
+use Rattle.block.proofs.ContentsLaws.RowsAdjoin.{chain-at, chain-of}
+use Rattle.block.proofs.ContentsLaws.Shifts.{start-in, len-in}
 
--- contents end where they end together, and none ends later
-ends-after : {a e : ℕ} {rs : List (List ℕ)} → Adjoining a rs e → a ≤ e
-ends-after done = omega arith
-ends-after (next row more s r) = omega (arith, ends-after r)
-
-adjoining-at : {a e : ℕ} {rs : List (List ℕ)} → Adjoining a rs e → (p : ℕ) → p < length rs → four_at 40 (get_or rs p []) + four_at 44 (get_or rs p []) ≤ e
-adjoining-at done p q = absurd (omega arith)
-adjoining-at (next row more s r) zero q = omega (arith, s, ends-after r)
-adjoining-at (next row more s r) (suc p) q = adjoining-at r p (omega arith)
-
-module _ (h : Head) (xs : List ℕ) (sound : Sound h xs) (i : ℕ) (q : i < h.live.cached) where
+module _ (h : Head) (xs : List ℕ) (sound : Sound h xs) (i : ℕ) (b : i < length (state_of h xs).cache.entries) where
   abbrev l : Limits
   l = limits_of h.limits
 
@@ -54,59 +45,54 @@ module _ (h : Head) (xs : List ℕ) (sound : Sound h xs) (i : ℕ) (q : i < h.li
   abbrev p : ℕ
   p = (ref_at es i).place
 
-  abbrev row : List ℕ
-  row = part (p * 48) 48 (table l 5 xs)
+  abbrev x : ExpiryRow
+  x = row_at rs p
 
-  p-same : (ref_at (refs_at (cached_cache h) xs) i).place ≡ p
+  pub entry-below : i < n
+  entry-below = omega (arith, b, count-cached h xs sound.fit)
+
+  p-same : row_of h xs i ≡ p
   p-same = ap (λ (z : List Ref). (ref_at z i).place) (refs-in l 4 4 n 5 48 m xs (lit< tt) (omega (arith, sound.fit.within.cached)) (lit< tt) (omega (arith, sound.fit.within.cached_rows)))
 
   p-below : p < m
   p-below =
-      let b : get_or (places es) i 0 < m = sound.laid.cached.below i (omega (arith, length-map es (λ (r : Ref). r.place), length-refs 4 n (table l 4 xs))) in
-      omega (arith, b, get_or-map-in (λ (r : Ref). r.place) es i 0 (ref 0 []) (omega (arith, length-refs 4 n (table l 4 xs))))
+      let z : get_or (places es) i 0 < m = sound.laid.cached.below i (omega (arith, entry-below, length-map es (λ (r : Ref). r.place), length-refs 4 n (table l 4 xs))) in
+      omega (arith, z, get_or-map-in (λ (r : Ref). r.place) es i 0 (ref 0 []) (omega (arith, entry-below, length-refs 4 n (table l 4 xs))))
 
-  pub place-below : (ref_at (refs_at (cached_cache h) xs) i).place < m
+  pub place-below : row_of h xs i < m
   place-below = omega (arith, p-same, p-below)
 
-  value_in : cached_at (state_of h xs) i ≡ cached_of (table l 6 xs) (ref_at es i).own (row_at rs p).rest
+  value_in : cached_at (state_of h xs) i ≡ cached_of (table l 6 xs) (ref_at es i).own x.rest
   unfolding state_of cached_in cache_of
-  value_in = ap (λ (e : Entry (Timed Cached)). e.value.value) (get_or-map-in (entry_of (cached_of (table l 6 xs)) rs) es i (entry 0 (record { expires = 0; value = record { content = []; round = 0 } })) (ref 0 []) (omega (arith, length-refs 4 n (table l 4 xs))))
+  value_in = ap (λ (e : Entry (Timed Cached)). e.value.value) (get_or-map-in (entry_of (cached_of (table l 6 xs)) rs) es i (entry 0 (record { expires = 0; value = record { content = []; round = 0 } })) (ref 0 []) (omega (arith, entry-below, length-refs 4 n (table l 4 xs))))
 
-  content-in : (cached_at (state_of h xs) i).content ≡ part (four_at 40 row) (four_at 44 row) (table l 6 xs)
-  unfolding cached_of content_of expiry_row_of four_at part
-  content-in =
-      ap (λ (v : Cached). v.content) value_in
-      ∙ ap (λ (y : ExpiryRow). content_of (table l 6 xs) y.rest) (row-at 48 m p (table l 5 xs) p-below)
-      ∙ ap (λ (z : List ℕ). part (four_at 40 row) (le_nat (take 4 z)) (table l 6 xs)) (drop-drop 4 40 row)
+  -- start and length, read from the row that the entry names
+  module _ (k a s c : ℕ) (ek : k ≡ row_of h xs i) (ea : a ≡ place l 5) (es : s ≡ le_nat (part (a + 48 * k + 40) 4 xs)) (ec : c ≡ le_nat (part (a + 48 * k + 44) 4 xs)) where
+    same-start : s ≡ start_of x
+    same-start = es ∙ (λ j. le_nat (part (ea j + 48 * (ek ∙ p-same) j + 40) 4 xs)) ∙ sym (start-in l m xs (omega (arith, sound.fit.within.cached_rows)) p p-below)
 
-  ends : four_at 40 row + four_at 44 row ≤ h.live.contents
-  ends =
-      subst (λ (z : List ℕ). four_at 40 z + four_at 44 z ≤ h.live.contents) (get_d_rows 48 m p [] (table l 5 xs) p-below)
-      (adjoining-at sound.laid.contents p (omega (arith, p-below, length-rows 48 m (table l 5 xs))))
+    same-length : c ≡ len_of x
+    same-length = ec ∙ (λ j. le_nat (part (ea j + 48 * (ek ∙ p-same) j + 44) 4 xs)) ∙ sym (len-in l m xs (omega (arith, sound.fit.within.cached_rows)) p p-below)
 
-  -- start and length, read from the row that entry i names
-  pub content-is : (r : Extent) (k a : ℕ) → k ≡ (ref_at (refs_at (cached_cache h) xs) i).place → a ≡ place l 5 → r.start ≡ le_nat (part (a + 48 * k + 40) 4 xs) → r.len ≡ le_nat (part (a + 48 * k + 44) 4 xs) → ContentIs h xs i r
-  unfolding four_at
-  content-is r k a ek ea es el =
-      let at : a + 48 * k + 40 ≡ place l 5 + (p * 48 + 40) = omega (arith, ek, ea, p-same) in
-      let at4 : a + 48 * k + 44 ≡ place l 5 + (p * 48 + 44) = omega (arith, ek, ea, p-same) in
-      let inside : p * 48 + 48 ≤ 48 * (2 * l.C + 1) = omega (arith, p-below, sound.fit.within.cached_rows) in
-      let s : r.start ≡ four_at 40 row = es ∙ ap (λ (b : ℕ). le_nat (part b 4 xs)) at ∙ sym (ap le_nat (field_in l 5 48 p 40 4 xs (lit< tt) (omega arith) inside)) in
-      let t : r.len ≡ four_at 44 row = el ∙ ap (λ (b : ℕ). le_nat (part b 4 xs)) at4 ∙ sym (ap le_nat (field_in l 5 48 p 44 4 xs (lit< tt) (omega arith) inside)) in
-      let w : r.start + r.len ≤ h.live.contents = omega (arith, s, t, ends) in
-      record {
-        within = w;
-        same = content-in ∙ (λ z. part (sym s z) (sym t z) (table l 6 xs)) ∙ part_in l 6 r.start r.len xs (lit< tt) (omega (arith, w, sound.fit.within.contents));
-      }
+    pub content-ends : s + c ≤ h.live.contents
+    content-ends = omega (arith, same-start, same-length, (chain-at (chain-of h xs sound) p (omega (arith, p-below, length-expiry_rows 48 m (table l 5 xs)))).1)
+
+    pub content-is : (z : ℕ) → z ≡ place l 6 → part (z + s) c xs ≡ (cached_at (state_of h xs) i).content
+    unfolding cached_of content_of
+    content-is z ez =
+        ap (λ (o : ℕ). part (o + s) c xs) ez
+        ∙ sym (part_in l 6 s c xs (lit< tt) (omega (arith, content-ends, sound.fit.within.contents)))
+        ∙ (λ j. part (same-start j) (same-length j) (table l 6 xs))
+        ∙ sym (ap (λ (v : Cached). v.content) value_in)
 
   -- the round, after the place
   pub round_is : (a v : ℕ) → a ≡ place l 4 → v ≡ le_nat (part (a + 4 * i + 2) 2 xs) → v ≡ (cached_at (state_of h xs) i).round
   unfolding cached_of half_at ref_of part
   round_is a v ea ev =
       let at : a + 4 * i + 2 ≡ place l 4 + (i * 4 + 2) = omega (arith, ea) in
-      let own : le_nat (part 2 2 (part (i * 4) 4 (table l 4 xs))) ≡ half_at 0 (ref_at es i).own = sym (ap (λ (r : Ref). half_at 0 r.own) (ref-at 4 n i (ref 0 []) (table l 4 xs) q)) in
+      let own : le_nat (part 2 2 (part (i * 4) 4 (table l 4 xs))) ≡ half_at 0 (ref_at es i).own = sym (ap (λ (r : Ref). half_at 0 r.own) (ref-at 4 n i (ref 0 []) (table l 4 xs) entry-below)) in
       ev
-      ∙ ap (λ (b : ℕ). le_nat (part b 2 xs)) at
-      ∙ sym (ap le_nat (field_in l 4 4 i 2 2 xs (lit< tt) (omega arith) (omega (arith, sound.fit.within.cached))))
+      ∙ ap (λ (o : ℕ). le_nat (part o 2 xs)) at
+      ∙ sym (ap le_nat (field_in l 4 4 i 2 2 xs (lit< tt) (omega arith) (omega (arith, entry-below, sound.fit.within.cached))))
       ∙ own
       ∙ sym (ap (λ (v : Cached). v.round) value_in)

@@ -1,6 +1,6 @@
 -- A write of the `first` or the `kept` of a grafted message: the value that its bytes then hold, and what the write does to the state.
 -- Assumes nothing.
-use Rattle.std.proofs.Common.{Option, Some, None, ◌≡◌, refl, sym, ap, ◌∙◌, subst, List, [], ◌∷◌, ◌++◌, map, ℕ, zero, suc, ◌+◌, ◌*◌, ◌^◌, ◌≤◌, ◌<◌, arith, lit<, ltb, eqb, length, take, drop, get_or, set, length-append, length-drop, take_all, drop_at}
+use Rattle.std.proofs.Common.{Option, Some, None, ◌≡◌, refl, sym, ap, ◌∙◌, subst, List, [], ◌∷◌, map, ℕ, zero, suc, ◌+◌, ◌*◌, ◌^◌, ◌≤◌, ◌<◌, arith, lit<, ltb, eqb, length, take, drop, get_or, set, length-append, length-drop, take_all, drop_at}
 use lib.Seq.{take-append-le}
 use Rattle.storage.specs.Lists.Map.{Map, Entry, entry, lookup, insert}
 use Rattle.storage.proofs.ListsLaws.MapLaws.{cases}
@@ -26,18 +26,12 @@ use Rattle.block.specs.declared.head.Head.{Head}
 use Rattle.block.proofs.Tables.{length-table}
 use Rattle.block.specs.TimeCaches.{grafted_cache}
 use Rattle.block.specs.Caches.InBlock.{InOrder}
-use Rattle.block.specs.Caches.GraftSteps.{grafted_at, grafts_at, first_at, kept_at}
+use Rattle.block.specs.Caches.GraftSteps.{grafted_at, grafts_at, first_at, kept_at, first_bytes, kept_bytes}
 use Rattle.block.proofs.CachesLaws.CacheLaws.{as_value, cache-in, refs-in, rows_in}
 use Rattle.block.proofs.CachesLaws.GraftedLaws.{peers_of, EachOwn, Listed, to-own, grafted-lies, grafted-sound, grafted-state, grafted-laid, grafted-as}
-use Rattle.block.proofs.CachesLaws.GraftLaws.{grafted-entry}
+use Rattle.block.proofs.CachesLaws.GraftLaws.{entry-below, grafted-entry}
 
--- the bytes of a `first` and of a `kept`
-abbrev pub first_bytes : ℕ → ℕ → List ℕ
-first_bytes p r = 1 ∷ (le_bytes 8 p ++ le_bytes 2 r)
-
-abbrev pub kept_bytes : ℕ → List ℕ
-kept_bytes p = 1 ∷ le_bytes 8 p
-
+-- how long a `first` and a `kept` are
 pub length-first : (p r : ℕ) → length (first_bytes p r) ≡ 11
 length-first p r = omega (arith, length-append (le_bytes 8 p) (le_bytes 2 r), length-le_bytes 8 p, length-le_bytes 2 r)
 
@@ -158,7 +152,7 @@ each-put P (suc i) r (e ∷ es) p a h = record { each = go (each-put P i r es p 
     go next (suc j) q = next.each j (omega arith)
 
 -- bytes of grafted message i, after its place
-module _ (h : Head) (xs : List ℕ) (sound : Sound h xs) (order : InOrder (state_of h xs).grafted) (i : ℕ) (q : i < h.live.grafted) (o : ℕ) (bs : List ℕ) (w : o + length bs ≤ 117) where
+module _ (h : Head) (xs : List ℕ) (sound : Sound h xs) (order : InOrder (state_of h xs).grafted) (i : ℕ) (there : i < length (state_of h xs).grafted.entries) (o : ℕ) (bs : List ℕ) (w : o + length bs ≤ 117) where
   abbrev l : Limits
   l = limits_of h.limits
 
@@ -186,6 +180,9 @@ module _ (h : Head) (xs : List ℕ) (sound : Sound h xs) (order : InOrder (state
   abbrev pub x : ExpiryRow
   x = row_at (rows_at c xs) r.place
 
+  q : i < n
+  q = entry-below h xs sound i there
+
   n-in : n * 119 ≤ 119 * (l.G + 1)
   n-in = omega (arith, sound.fit.within.grafted)
 
@@ -200,25 +197,25 @@ module _ (h : Head) (xs : List ℕ) (sound : Sound h xs) (order : InOrder (state
   own-long =
       let lt : length tab ≡ 119 * (l.G + 1) = length-table l 7 xs (lit< tt) sound.fit.long in
       let row : List ℕ = part (i * 119) 119 tab in
-      let lr : length row ≡ 119 = length_part (i * 119) 119 tab (omega (arith, n-in)) in
+      let lr : length row ≡ 119 = length_part (i * 119) 119 tab (omega (arith, q, n-in)) in
       ap (λ (es : List Ref). length (ref_at es i).own) refs-same ∙ ap (λ (e : Ref). length e.own) (ref-at 119 n i (ref 0 []) tab q) ∙ length-drop 2 row ∙ (omega arith)
 
   -- the entry in the view
   pub entry-same : grafted_at (state_of h xs) i ≡ entry x.key (record { expires = x.time; value = grafts_of ps r.own x.rest })
   entry-same =
-      grafted-entry h xs sound i q
+      grafted-entry h xs sound i there
       ∙ (λ z. let e : Ref = ref_at (sym refs-same z) i in
       let y : ExpiryRow = row_at (sym (rows_in l 7 119 n 8 40 m xs (lit< tt) n-in (lit< tt) m-in) z) e.place in
       entry y.key (record { expires = y.time; value = grafts_of ps e.own y.rest }))
 
   ys-long : length ys ≡ length xs
-  ys-long = length-put (place l 7 + (i * 119 + (2 + o))) bs xs (omega (arith, n-in, sound.fit.long))
+  ys-long = length-put (place l 7 + (i * 119 + (2 + o))) bs xs (omega (arith, q, n-in, sound.fit.long))
 
   only : OnlyTwo (place l 7) (119 * (l.G + 1)) (place l 8) 0 xs ys
   only =
       only-both (place l 7) (119 * (l.G + 1)) (place l 8) 0 xs xs ys (omega arith) (omega (arith, sound.fit.long)) refl ys-long
       (only_same (place l 8) 0 xs (omega (arith, sound.fit.long)))
-      (only-put (place l 7) (i * 119 + (2 + o)) (119 * (l.G + 1)) bs xs (omega (arith, n-in)) (omega (arith, sound.fit.long)))
+      (only-put (place l 7) (i * 119 + (2 + o)) (119 * (l.G + 1)) bs xs (omega (arith, q, n-in)) (omega (arith, sound.fit.long)))
 
   s : SoundCache c xs
   s = grafted-sound h xs sound order
@@ -230,7 +227,7 @@ module _ (h : Head) (xs : List ℕ) (sound : Sound h xs) (order : InOrder (state
   old-lists = subst (EachOwn (Listed h.live.links)) (sym refs-same) (to-own h.live.links n tab sound.laid.grafts)
 
   here : i < length (refs_at c xs)
-  here = omega (arith, length-refs 119 n (drop (place l 7) xs))
+  here = omega (arith, q, length-refs 119 n (drop (place l 7) xs))
 
   -- a write before the list of peers leaves the list
   pub list-kept : o + length bs ≤ 20 → Listed h.live.links (put o bs r.own)
@@ -258,67 +255,66 @@ module _ (h : Head) (xs : List ℕ) (sound : Sound h xs) (order : InOrder (state
         sound = grafted-laid h xs ys sound n m (119 * (l.G + 1)) 0 (omega arith) (omega arith) ys-long only sound.fit.within.grafted sound.fit.within.grafted_rows (own-sound c xs s i q lies o bs (omega arith)) (lists listed);
       }
 
--- the stores of a `first` and of a `kept`
-module _ (h : Head) (xs : List ℕ) (sound : Sound h xs) (order : InOrder (state_of h xs).grafted) (i : ℕ) (q : i < h.live.grafted) (a p : ℕ) (at : a ≡ place (limits_of h.limits) 7 + 119 * i) (hp : p < 256 ^ 8) where
+-- the stores of a `first` and of a `kept`, as bytes
+module _ (xs : List ℕ) (a p : ℕ) (w : a + 119 ≤ length xs) where
+  pub first-stored : (rd : ℕ) → put (a + 11) (le_bytes 2 rd) (put (a + 3) (le_bytes 8 p) (set xs (a + 2) 1)) ≡ put (a + 2) (first_bytes p rd) xs
+  first-stored rd =
+      let l8 : length (le_bytes 8 p) ≡ 8 = length-le_bytes 8 p in
+      let l2 : length (le_bytes 2 rd) ≡ 2 = length-le_bytes 2 rd in
+      ap (λ (zs : List ℕ). put (a + 11) (le_bytes 2 rd) (put (a + 3) (le_bytes 8 p) zs)) (set-put (a + 2) 1 xs (omega arith))
+      ∙ ap (put (a + 11) (le_bytes 2 rd)) (put-put-next (a + 2) (a + 3) (1 ∷ []) (le_bytes 8 p) xs (omega arith) (omega (arith, l8)))
+      ∙ put-put-next (a + 2) (a + 11) (1 ∷ le_bytes 8 p) (le_bytes 2 rd) xs (omega (arith, l8)) (omega (arith, l2))
+
+  pub kept-stored : put (a + 14) (le_bytes 8 p) (set xs (a + 13) 1) ≡ put (a + 13) (kept_bytes p) xs
+  kept-stored =
+      ap (put (a + 14) (le_bytes 8 p)) (set-put (a + 13) 1 xs (omega arith))
+      ∙ put-put-next (a + 13) (a + 14) (1 ∷ []) (le_bytes 8 p) xs (omega arith) (omega (arith, length-le_bytes 8 p))
+
+-- as steps of the state
+module _ (h : Head) (xs : List ℕ) (sound : Sound h xs) (order : InOrder (state_of h xs).grafted) (i : ℕ) (there : i < length (state_of h xs).grafted.entries) (a p : ℕ) (at : a ≡ place (limits_of h.limits) 7 + 119 * i) (hp : p < 256 ^ 8) where
   abbrev lim : Limits
   lim = limits_of h.limits
 
-  inside : a + 119 ≤ length xs
-  inside = omega (arith, at, sound.fit.within.grafted, sound.fit.long)
-
-  pub first_goes : (rd : ℕ) → rd < 256 ^ 2 → Goes (first_at i p rd) h xs h (put (a + 11) (le_bytes 2 rd) (put (a + 3) (le_bytes 8 p) (set xs (a + 2) 1)))
+  pub first_goes : (rd : ℕ) → rd < 256 ^ 2 → Goes (first_at i p rd) h xs h (put (a + 2) (first_bytes p rd) xs)
   first_goes rd hr =
       let bs : List ℕ = first_bytes p rd in
       let w : 0 + length bs ≤ 117 = omega (arith, length-first p rd) in
-      let l8 : length (le_bytes 8 p) ≡ 8 = length-le_bytes 8 p in
-      let l2 : length (le_bytes 2 rd) ≡ 2 = length-le_bytes 2 rd in
       let e : a + 2 ≡ place lim 7 + (i * 119 + (2 + 0)) = omega (arith, at) in
-      let one : put (a + 3) (le_bytes 8 p) (set xs (a + 2) 1) ≡ put (a + 2) (1 ∷ le_bytes 8 p) xs =
-      ap (put (a + 3) (le_bytes 8 p)) (set-put (a + 2) 1 xs (omega (arith, inside))) ∙ put-put-next (a + 2) (a + 3) (1 ∷ []) (le_bytes 8 p) xs (omega arith) (omega (arith, inside)) in
-      let two : put (a + 11) (le_bytes 2 rd) (put (a + 3) (le_bytes 8 p) (set xs (a + 2) 1)) ≡ put (place lim 7 + (i * 119 + (2 + 0))) bs xs =
-      ap (put (a + 11) (le_bytes 2 rd)) one
-      ∙ put-put-next (a + 2) (a + 11) (1 ∷ le_bytes 8 p) (le_bytes 2 rd) xs (omega (arith, l8)) (omega (arith, inside, l2))
-      ∙ ap (λ (b : ℕ). put b bs xs) e in
       let g : Grafts = record { first = Some (record { peer = p; round = rd }); kept = (grafts_at (state_of h xs) i).kept; peers = (grafts_at (state_of h xs) i).peers } in
-      let same : grafts_at (state_of h xs) i ≡ grafts_of (peers_of h xs) (r h xs sound order i q 0 bs w).own (x h xs sound order i q 0 bs w).rest =
-      ap (λ (y : Entry (Timed Grafts)). y.value.value) (entry-same h xs sound order i q 0 bs w) in
-      let go = own-goes h xs sound order i q 0 bs w (list-kept h xs sound order i q 0 bs w (omega (arith, length-first p rd))) g
-      (first-value (peers_of h xs) (r h xs sound order i q 0 bs w).own (x h xs sound order i q 0 bs w).rest (own-long h xs sound order i q 0 bs w) p rd hp hr
+      let same : grafts_at (state_of h xs) i ≡ grafts_of (peers_of h xs) (r h xs sound order i there 0 bs w).own (x h xs sound order i there 0 bs w).rest =
+      ap (λ (y : Entry (Timed Grafts)). y.value.value) (entry-same h xs sound order i there 0 bs w) in
+      let go = own-goes h xs sound order i there 0 bs w (list-kept h xs sound order i there 0 bs w (omega (arith, length-first p rd))) g
+      (first-value (peers_of h xs) (r h xs sound order i there 0 bs w).own (x h xs sound order i there 0 bs w).rest (own-long h xs sound order i there 0 bs w) p rd hp hr
       ∙ (λ z. record { first = Some (record { peer = p; round = rd }); kept = (sym same z).kept; peers = (sym same z).peers })) in
-      subst (Goes (first_at i p rd) h xs h) (sym two) (record { state = go.state; sound = go.sound })
+      subst (Goes (first_at i p rd) h xs h) (ap (λ (b : ℕ). put b bs xs) (sym e)) (record { state = go.state; sound = go.sound })
 
-  pub kept_goes : Goes (kept_at i p) h xs h (put (a + 14) (le_bytes 8 p) (set xs (a + 13) 1))
+  pub kept_goes : Goes (kept_at i p) h xs h (put (a + 13) (kept_bytes p) xs)
   kept_goes =
       let bs : List ℕ = kept_bytes p in
       let w : 11 + length bs ≤ 117 = omega (arith, length-kept p) in
-      let l8 : length (le_bytes 8 p) ≡ 8 = length-le_bytes 8 p in
       let e : a + 13 ≡ place lim 7 + (i * 119 + (2 + 11)) = omega (arith, at) in
-      let one : put (a + 14) (le_bytes 8 p) (set xs (a + 13) 1) ≡ put (place lim 7 + (i * 119 + (2 + 11))) bs xs =
-      ap (put (a + 14) (le_bytes 8 p)) (set-put (a + 13) 1 xs (omega (arith, inside)))
-      ∙ put-put-next (a + 13) (a + 14) (1 ∷ []) (le_bytes 8 p) xs (omega arith) (omega (arith, inside))
-      ∙ ap (λ (b : ℕ). put b bs xs) e in
       let g : Grafts = record { first = (grafts_at (state_of h xs) i).first; kept = Some p; peers = (grafts_at (state_of h xs) i).peers } in
-      let same : grafts_at (state_of h xs) i ≡ grafts_of (peers_of h xs) (r h xs sound order i q 11 bs w).own (x h xs sound order i q 11 bs w).rest =
-      ap (λ (y : Entry (Timed Grafts)). y.value.value) (entry-same h xs sound order i q 11 bs w) in
-      let go = own-goes h xs sound order i q 11 bs w (list-kept h xs sound order i q 11 bs w (omega (arith, length-kept p))) g
-      (kept-value (peers_of h xs) (r h xs sound order i q 11 bs w).own (x h xs sound order i q 11 bs w).rest (own-long h xs sound order i q 11 bs w) p hp
+      let same : grafts_at (state_of h xs) i ≡ grafts_of (peers_of h xs) (r h xs sound order i there 11 bs w).own (x h xs sound order i there 11 bs w).rest =
+      ap (λ (y : Entry (Timed Grafts)). y.value.value) (entry-same h xs sound order i there 11 bs w) in
+      let go = own-goes h xs sound order i there 11 bs w (list-kept h xs sound order i there 11 bs w (omega (arith, length-kept p))) g
+      (kept-value (peers_of h xs) (r h xs sound order i there 11 bs w).own (x h xs sound order i there 11 bs w).rest (own-long h xs sound order i there 11 bs w) p hp
       ∙ (λ z. record { first = (sym same z).first; kept = Some p; peers = (sym same z).peers })) in
-      subst (Goes (kept_at i p) h xs h) (sym one) (record { state = go.state; sound = go.sound })
+      subst (Goes (kept_at i p) h xs h) (ap (λ (b : ℕ). put b bs xs) (sym e)) (record { state = go.state; sound = go.sound })
 
 -- the store of another list of peers
-module _ (h : Head) (xs : List ℕ) (sound : Sound h xs) (order : InOrder (state_of h xs).grafted) (i : ℕ) (q : i < h.live.grafted) where
+module _ (h : Head) (xs : List ℕ) (sound : Sound h xs) (order : InOrder (state_of h xs).grafted) (i : ℕ) (there : i < length (state_of h xs).grafted.entries) where
   pub peers-goes : (list : List ℕ) → length list ≡ 97 → Numbered h.live.links list
       → Goes (λ s. with_grafted (replace (grafted_at s i).key (record { first = (grafts_at s i).first; kept = (grafts_at s i).kept; peers = hops_in (round_of (peers_of h xs)) list }) s.grafted) s) h xs h (put (place (limits_of h.limits) 7 + 119 * i + 22) list xs)
   peers-goes list long numbered =
       let lim : Limits = limits_of h.limits in
       let w : 20 + length list ≤ 117 = omega arith in
-      let own : List ℕ = (r h xs sound order i q 20 list w).own in
-      let rest : List ℕ = (x h xs sound order i q 20 list w).rest in
-      let ol : length own ≡ 117 = own-long h xs sound order i q 20 list w in
+      let own : List ℕ = (r h xs sound order i there 20 list w).own in
+      let rest : List ℕ = (x h xs sound order i there 20 list w).rest in
+      let ol : length own ≡ 117 = own-long h xs sound order i there 20 list w in
       let e : place lim 7 + 119 * i + 22 ≡ place lim 7 + (i * 119 + (2 + 20)) = omega arith in
       let g : Grafts = record { first = (grafts_at (state_of h xs) i).first; kept = (grafts_at (state_of h xs) i).kept; peers = hops_in (round_of (peers_of h xs)) list } in
-      let same : grafts_at (state_of h xs) i ≡ grafts_of (peers_of h xs) own rest = ap (λ (y : Entry (Timed Grafts)). y.value.value) (entry-same h xs sound order i q 20 list w) in
-      let go = own-goes h xs sound order i q 20 list w (subst (Numbered h.live.links) (sym (list_put (peers_of h xs) own rest ol list long)) numbered) g
+      let same : grafts_at (state_of h xs) i ≡ grafts_of (peers_of h xs) own rest = ap (λ (y : Entry (Timed Grafts)). y.value.value) (entry-same h xs sound order i there 20 list w) in
+      let go = own-goes h xs sound order i there 20 list w (subst (Numbered h.live.links) (sym (list_put (peers_of h xs) own rest ol list long)) numbered) g
       (peers-value (peers_of h xs) own rest ol list long ∙ (λ z. record { first = (sym same z).first; kept = (sym same z).kept; peers = hops_in (round_of (peers_of h xs)) list })) in
       let f : State → State = λ s. with_grafted (replace (grafted_at s i).key (record { first = (grafts_at s i).first; kept = (grafts_at s i).kept; peers = hops_in (round_of (peers_of h xs)) list }) s.grafted) s in
       subst (Goes f h xs h) (ap (λ (b : ℕ). put b list xs) (sym e)) (record { state = go.state; sound = go.sound })

@@ -116,7 +116,7 @@ received-expired h xs ys instant r sound e x =
 
 -- an insert
 pub received-inserted : (h : Head) (xs ys : List ℕ) (id expires : ℕ) (r : Inserted) → Sound h xs → length ys ≡ length xs
-    → AtMost h.limits.received (put_in id tt expires (state_of h xs).received) → Inserts (received_cache h) id expires xs r ys
+    → AtMost (state_of h xs).limits.R (put_in id tt expires (state_of h xs).received) → Inserts (received_cache h) id expires xs r ys
     → Goes (received_also id expires) h xs (with_received_counts r.cache.entries.len r.cache.expiry.len h) ys
 unfolding received_in state_of
 received-inserted h xs ys id expires r sound e most x =

@@ -28,7 +28,7 @@ use Rattle.block.specs.Caches.InBlock.{InOrder}
 use Rattle.block.proofs.CachesLaws.CacheLaws.{refs-in, rows_in, frame-pair, expired-in}
 use Rattle.block.specs.Contents.Starts.{start_of, len_of, first_start, RowsAdjoin, shifted_row, Above}
 use Rattle.block.specs.Contents.CacheSteps.{cached_left, Others, Ahead, Shifts}
-use Rattle.block.proofs.ContentsLaws.RowsAdjoin.{Along, along-at, along-map, chain-along, chain-at, chain-ends, chain-drop, chain-above, of-adjoining, to-adjoining, wide_rows}
+use Rattle.block.proofs.ContentsLaws.RowsAdjoin.{Along, along-at, along-map, chain-along, chain-at, chain-ends, chain-drop, chain-above, to-adjoin, wide_rows, chain-of}
 use Rattle.block.proofs.ContentsLaws.Contents.{part_moved, cache-same, left-held}
 
 -- the other tables, out of what is asked of all
@@ -69,7 +69,7 @@ module _ (h : Head) (xs ys : List ℕ) (fit : Fit h xs) (others : Others h (tabl
         received = others.received;
         cached = b;
         grafted = others.grafted;
-        contents = to-adjoining 0 u (rows 48 m x) c;
+        contents = to-adjoin 0 u (rows 48 m x) c;
         used = t;
         grafts = others.grafts;
         missing = others.missing;
@@ -224,7 +224,7 @@ expired-ahead h xs ys instant r sound o e x =
     let below : Below m' (places (refs 4 n' (table l 4 ys))) =
     subst (λ (z : List Ref). Below m' (places z)) (ap (λ (c : TimeBoundCache). refs_at c ys) x.sized ∙ refs-in l 4 4 n' 5 48 m' ys (lit< tt) wn' (lit< tt) wm')
     x.sound.below in
-    let chain : RowsAdjoin 0 rs u = unfold expiry_rows in of-adjoining sound.laid.contents in
+    let chain : RowsAdjoin 0 rs u = chain-of h xs sound in
     let lrs : length rs ≡ m = length-expiry_rows 48 m (table l 5 xs) in
     let up : ascending (named rs es) ≡ true =
     ap ascending (sym (keys-named (cached_of store) es rs)) ∙ o.up in

@@ -34,7 +34,7 @@ use Rattle.block.proofs.CachesLaws.CacheLaws.{refs-in, rows_in, frame-pair, inse
 use Rattle.block.proofs.CachesLaws.CachedLaws.{cached-lies}
 use Rattle.block.specs.Contents.Starts.{start_of, len_of, first_start, RowsAdjoin, with_start, with_len}
 use Rattle.block.specs.Contents.CacheSteps.{message, cached_also, cached_rows, empty_in, Others}
-use Rattle.block.proofs.ContentsLaws.RowsAdjoin.{of-adjoining, chain-ends, chain-drop, chain-gap, start-set, len-set, len-start, wide_rows}
+use Rattle.block.proofs.ContentsLaws.RowsAdjoin.{chain-ends, chain-drop, chain-gap, start-set, len-set, len-start, wide_rows, chain-of}
 use Rattle.block.proofs.ContentsLaws.Shifts.{store-start}
 use Rattle.block.proofs.ContentsLaws.Closing.{others-of, cached-state, cached-laid}
 
@@ -55,7 +55,7 @@ drop-gap j x xs h =
     ap (λ (i : ℕ). drop i (take j xs ++ (x ∷ drop j xs))) e ∙ drop-append-add (take j xs) (x ∷ drop j xs) 1
 
 module _ (h : Head) (xs : List ℕ) (sound : Sound h xs) (id round t : ℕ) (r : Inserted) (ys : List ℕ) (e : length ys ≡ length xs) (x : Inserts (cached_cache h) id t xs r ys)
-    (most : AtMost h.limits.cached (put_in id (message [] round) t (state_of h xs).cache)) where
+    (most : AtMost (state_of h xs).limits.C (put_in id (message [] round) t (state_of h xs).cache)) where
   abbrev l : Limits
   l = limits_of h.limits
 
@@ -184,8 +184,7 @@ module _ (h : Head) (xs : List ℕ) (sound : Sound h xs) (id round t : ℕ) (r :
     e3 = put (i * 4 + 2) (le_bytes 2 round) (table l 4 ys)
 
     chain : RowsAdjoin 0 rs u
-    unfolding expiry_rows
-    chain = of-adjoining sound.laid.contents
+    chain = chain-of h xs sound
 
     low : s ≤ u
     low = omega (arith, es, chain-ends (chain-drop chain j))
@@ -325,8 +324,8 @@ module _ (h : Head) (xs : List ℕ) (sound : Sound h xs) (id round t : ℕ) (r :
         ∙ inserted-in l 4 4 n 5 48 m xs y3 (lit< tt) wn (lit< tt) wm n' m' wn' wm' (cached_of store) id t (held_at c' i j y3) fresh.cache
         ∙ ap (λ (v : Cached). put_in id v t (cache_in (cached_of store) 4 n (table l 4 xs) 48 m (table l 5 xs))) value-is
 
-    pub empty-goes : held (put_in id (message [] round) t (state_of h xs).cache).entries ≡ u → (zs : List ℕ) → zs ≡ empty_in new_head i j s round ys → Goes (cached_also id [] round t) h xs new_head zs
-    unfolding y3
+    pub empty-goes : held (put_in id (message [] round) t (state_of h xs).cache).entries ≡ held (state_of h xs).cache.entries → (zs : List ℕ) → zs ≡ empty_in new_head i j s round ys → Goes (cached_also id [] round t) h xs new_head zs
+    unfolding y3 state_of
     empty-goes used zs q =
         let others : Others h (tables l xs) = others-of h (tables l xs) sound.laid in
         let below : Below m' (places (refs 4 n' e3)) = subst (λ (z : List Ref). Below m' (places z)) (refs-in l 4 4 n' 5 48 m' y3 (lit< tt) wn' (lit< tt) wm' ∙ ap (refs 4 n') four) fresh.sound.below in
@@ -335,5 +334,5 @@ module _ (h : Head) (xs : List ℕ) (sound : Sound h xs) (id round t : ℕ) (r :
           state = cached-state h xs y3 sound.fit others n' m' u e3 x3 store tables-3 ∙ ap (λ (c : Cache Cached). with_cache c (state_of h xs)) all;
           sound = cached-laid h xs y3 sound.fit others n' m' u e3 x3 store tables-3 (fit_at y3 l3) below
               (subst (λ (z : List ExpiryRow). RowsAdjoin 0 z u) (sym rows-3) (chain-gap j new chain (new-start ∙ es) new-len))
-              (ap (λ (c : Cache Cached). held c.entries) all ∙ used);
+              (ap (λ (c : Cache Cached). held c.entries) all ∙ used ∙ sound.laid.used);
         })

@@ -8,11 +8,8 @@ use Rattle.time_cache.specs.TimeCache.{Timed, Cache, value_of, get, put as put_i
 use Rattle.time_cache.proofs.Timely.{order-added}
 use Rattle.time_cache.proofs.ValueLaws.{replace-put}
 use Rattle.protocol.specs.State.{State, Cached, with_cache}
-use Rattle.decide.proofs.SizesAfter.{content_length}
-use Rattle.decide.proofs.Broadcast.{content-put}
 use Rattle.block.specs.View.{state_of}
 use Rattle.block.specs.Sound.{Sound, held}
-use Rattle.block.specs.Goes.{Goes}
 use Rattle.block.specs.declared.head.Head.{Head}
 use Rattle.block.specs.Caches.InBlock.{InOrder, AtMost}
 use Rattle.block.specs.Contents.CacheSteps.{message, cached_also, refill_with, refill, refilled}
@@ -35,6 +32,19 @@ sum-insert-le f k v [] = omega arith
 sum-insert-le f k v (e ∷ m) =
     cases (ltb k e.key) (λ p. rw p (omega arith))
     (λ p. rw p (cases (eqb k e.key) (λ q. rw q (omega arith)) (λ q. rw q (omega (arith, sum-insert-le f k v m)))))
+
+-- the content bytes of a message that was looked up
+bytes_of : Option Cached → ℕ
+bytes_of None = 0
+bytes_of (Some v) = length v.content
+
+-- an entry without a content in place of one without, or of none
+insert-bare : (k : ℕ) (v : Timed Cached) (m : Map (Timed Cached)) → length v.value.content ≡ 0 → bytes_of (value_of (lookup k m)) ≡ 0 → held (insert k v m) ≡ held m
+unfolding insert lookup sum value_of bytes_of
+insert-bare k v [] z b = omega (arith, z)
+insert-bare k v (e ∷ m) z b =
+    cases (ltb k e.key) (λ p. rw p (omega (arith, z)))
+    (λ p. rw p (cases (eqb k e.key) (λ q. rw q (omega (arith, z, rw q at b))) (λ q. rw q (omega (arith, insert-bare k v m z (rw q at b))))))
 
 module _ (id : ℕ) where
   -- a value put in over one that was replaced
@@ -102,19 +112,19 @@ module _ (id : ℕ) where
   held-less c = less-given (get id c) c
 
   -- nothing is left of an old content
-  bare-with : (r : ℕ) (o : Option (Timed Cached)) (m : Map (Timed Cached)) → lookup id m ≡ o → content_length (value_of (lookup id (with_value id (message [] r) o m))) ≡ 0
-  unfolding with_value value_of content_length
-  bare-with r None m e = ap (λ (o : Option (Timed Cached)). content_length (value_of o)) e
-  bare-with r (Some y) m e = ap (λ (o : Option (Timed Cached)). content_length (value_of o)) (lookup-insert-same id (record { expires = y.expires; value = message [] r }) m)
+  bare-with : (r : ℕ) (o : Option (Timed Cached)) (m : Map (Timed Cached)) → lookup id m ≡ o → bytes_of (value_of (lookup id (with_value id (message [] r) o m))) ≡ 0
+  unfolding with_value value_of bytes_of
+  bare-with r None m e = ap (λ (o : Option (Timed Cached)). bytes_of (value_of o)) e
+  bare-with r (Some y) m e = ap (λ (o : Option (Timed Cached)). bytes_of (value_of o)) (lookup-insert-same id (record { expires = y.expires; value = message [] r }) m)
 
-  bare-given : (o : Option Cached) (c : Cache Cached) → get id c ≡ o → content_length (get id (refill_with id [] o c)) ≡ 0
-  unfolding refill_with replace get content_length
-  bare-given None c e = ap content_length e
+  bare-given : (o : Option Cached) (c : Cache Cached) → get id c ≡ o → bytes_of (get id (refill_with id [] o c)) ≡ 0
+  unfolding refill_with replace get bytes_of
+  bare-given None c e = ap bytes_of e
   bare-given (Some v) c e = bare-with v.round (lookup id c.entries) c.entries refl
 
-  pub held_same : (round t : ℕ) (c : Cache Cached) → InOrder c → held (put_in id (message [] round) t (refill id [] c)).entries ≡ held (refill id [] c).entries
-  held_same round t c i =
-      omega (arith, content-put id t (message [] round) (refill id [] c) (in-order-refill [] c i).up, bare-given (get id c) c refl)
+  pub held_same : (round t : ℕ) (c : Cache Cached) → held (put_in id (message [] round) t (refill id [] c)).entries ≡ held (refill id [] c).entries
+  unfolding put_in get
+  held_same round t c = insert-bare id (record { expires = t; value = message [] round }) (refill id [] c).entries refl (bare-given (get id c) c refl)
 
   pub most-refill : (n : ℕ) (content : List ℕ) (round t : ℕ) (c : Cache Cached) → AtMost n (put_in id (message content round) t c) → AtMost n (put_in id (message [] round) t (refill id [] c))
   most-refill n content round t c a =
@@ -124,56 +134,37 @@ module _ (id : ℕ) where
         expiry = omega (arith, a.expiry, expiry-put id t (message content round) (message [] round) c);
       })
 
--- of header and block
-module _ (id : ℕ) (content : List ℕ) (round t : ℕ) (h : Head) (xs : List ℕ) (sound : Sound h xs) (order : InOrder (state_of h xs).cache) where
-  used : held (state_of h xs).cache.entries ≤ h.limits.content
-  unfolding state_of
-  used = omega (arith, sound.laid.used, sound.fit.within.contents)
+-- what the contents hold is within their limit
+pub held-within : (h : Head) (xs : List ℕ) → Sound h xs → held (state_of h xs).cache.entries ≤ (state_of h xs).limits.B
+unfolding state_of
+held-within h xs sound = omega (arith, sound.laid.used, sound.fit.within.contents)
 
-  pub first-room : held (refill id [] (state_of h xs).cache).entries ≤ h.limits.content
-  first-room = omega (arith, held-less id (state_of h xs).cache, used)
+-- of the state, which goes to s1, s2 and s3
+module _ (id : ℕ) (content : List ℕ) (round t : ℕ) (s : State) (order : InOrder s.cache) where
+  pub first-room : held s.cache.entries ≤ s.limits.B → held (refill id [] s.cache).entries ≤ s.limits.B
+  first-room w = omega (arith, held-less id s.cache, w)
 
-  module _ (a : Head) (ys : List ℕ) (g : Goes (refilled id []) h xs a ys) where
-    -- the limits are those of before
-    limit-1 : (a.limits.cached ≡ h.limits.cached) × (a.limits.content ≡ h.limits.content)
-    unfolding state_of
-    limit-1 = (ap (λ (s : State). s.limits.C) g.state, ap (λ (s : State). s.limits.B) g.state)
+  module _ (s1 : State) (g : s1 ≡ refilled id [] s) where
+    pub order-1 : InOrder s1.cache
+    order-1 = subst (λ (z : State). InOrder z.cache) (sym g) (in-order-refill id [] s.cache order)
 
-    pub order-1 : InOrder (state_of a ys).cache
-    order-1 = subst (λ (s : State). InOrder s.cache) (sym g.state) (in-order-refill id [] (state_of h xs).cache order)
+    pub most-1 : AtMost s.limits.C (put_in id (message content round) t s.cache) → AtMost s1.limits.C (put_in id (message [] round) t s1.cache)
+    most-1 m = subst (λ (z : State). AtMost z.limits.C (put_in id (message [] round) t z.cache)) (sym g) (most-refill id s.limits.C content round t s.cache m)
 
-    pub most-1 : AtMost h.limits.cached (put_in id (message content round) t (state_of h xs).cache) → AtMost a.limits.cached (put_in id (message [] round) t (state_of a ys).cache)
-    most-1 m =
-        subst (λ (n : ℕ). AtMost n (put_in id (message [] round) t (state_of a ys).cache)) (sym limit-1.0)
-        (subst (λ (s : State). AtMost h.limits.cached (put_in id (message [] round) t s.cache)) (sym g.state) (most-refill id h.limits.cached content round t (state_of h xs).cache m))
+    pub bare-1 : held (put_in id (message [] round) t s1.cache).entries ≡ held s1.cache.entries
+    bare-1 = subst (λ (z : State). held (put_in id (message [] round) t z.cache).entries ≡ held z.cache.entries) (sym g) (held_same id round t s.cache)
 
-    pub bare-1 : held (put_in id (message [] round) t (state_of a ys).cache).entries ≡ a.live.contents
-    unfolding state_of
-    bare-1 =
-        ap (λ (s : State). held (put_in id (message [] round) t s.cache).entries) g.state
-        ∙ held_same id round t (state_of h xs).cache order
-        ∙ sym (ap (λ (s : State). held s.cache.entries) g.state)
-        ∙ g.sound.laid.used
+    module _ (s2 : State) (f : s2 ≡ cached_also id [] round t s1) where
+      both : s2 ≡ cached_also id [] round t (refilled id [] s)
+      both = f ∙ ap (cached_also id [] round t) g
 
-    module _ (b : Head) (zs : List ℕ) (f : Goes (cached_also id [] round t) a ys b zs) where
-      cache-2 : (state_of b zs).cache ≡ put_in id (message [] round) t (refill id [] (state_of h xs).cache)
-      cache-2 = ap (λ (s : State). s.cache) (f.state ∙ ap (cached_also id [] round t) g.state)
+      pub order-2 : InOrder s2.cache
+      order-2 = subst (λ (z : State). InOrder z.cache) (sym f) (in-order-put id (message [] round) t s1.cache order-1)
 
-      limit-2 : b.limits.content ≡ h.limits.content
-      unfolding state_of
-      limit-2 = ap (λ (s : State). s.limits.B) f.state ∙ limit-1.1
-
-      pub order-2 : InOrder (state_of b zs).cache
-      order-2 = subst (λ (s : State). InOrder s.cache) (sym f.state) (in-order-put id (message [] round) t (state_of a ys).cache order-1)
-
-      pub room-2 : held (put_in id (message content round) t (state_of h xs).cache).entries ≤ h.limits.content → held (refill id content (state_of b zs).cache).entries ≤ b.limits.content
+      pub room-2 : held (put_in id (message content round) t s.cache).entries ≤ s.limits.B → held (refill id content s2.cache).entries ≤ s2.limits.B
       room-2 w =
-          omega (arith, w, limit-2, ap (λ (c : Cache Cached). held (refill id content c).entries) cache-2, ap (λ (c : Cache Cached). held c.entries) (put_three id content round t (state_of h xs).cache))
+          subst (λ (z : State). held (refill id content z.cache).entries ≤ z.limits.B) (sym both)
+          (omega (arith, w, ap (λ (c : Cache Cached). held c.entries) (put_three id content round t s.cache)))
 
-      pub also-goes : (r : Head) (ws : List ℕ) → Goes (refilled id content) b zs r ws → Goes (cached_also id content round t) h xs r ws
-      also-goes r ws e = record {
-        state =
-            e.state ∙ ap (refilled id content) (f.state ∙ ap (cached_also id [] round t) g.state)
-            ∙ ap (λ (c : Cache Cached). with_cache c (state_of h xs)) (put_three id content round t (state_of h xs).cache);
-        sound = e.sound;
-      }
+      pub also : (s3 : State) → s3 ≡ refilled id content s2 → s3 ≡ cached_also id content round t s
+      also s3 e = e ∙ ap (refilled id content) both ∙ ap (λ (c : Cache Cached). with_cache c s) (put_three id content round t s.cache)

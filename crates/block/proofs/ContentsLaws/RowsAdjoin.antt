@@ -1,18 +1,22 @@
 -- Rows whose contents stand one after the other.
 -- Assumes nothing.
-use Rattle.std.proofs.Common.{◌≡◌, refl, sym, ap, ◌∙◌, subst, List, [], ◌∷◌, ◌++◌, map, ℕ, zero, suc, ◌+◌, ◌-◌, ◌*◌, ◌≤◌, ◌<◌, arith, length, take, drop, length-drop, drop-drop, get_or-drop}
+use Rattle.std.proofs.Common.{◌≡◌, refl, sym, ap, ◌∙◌, subst, Bool, true, eqb, eqb-true, eq-eqb, List, [], ◌∷◌, ◌++◌, map, ℕ, zero, suc, ◌+◌, ◌-◌, ◌*◌, ◌≤◌, ◌<◌, arith, length, take, drop, length-drop, drop-drop, get_or-drop}
 use Rattle.storage.specs.Lists.Base.{sum}
+use Rattle.storage.proofs.ListsLaws.MapLaws.{and_left, and_right, and_intro}
 use Rattle.storage.specs.Rows.Part.{part}
 use Rattle.storage.specs.Rows.Digits.{le_nat, le_bytes}
+use Rattle.storage.specs.Rows.Rows.{rows}
 use Rattle.storage.proofs.RowsLaws.Parts.{part-put, part-before, part-after, length_part}
 use Rattle.storage.proofs.RowsLaws.Digits.{length-le_bytes, le_nat-le_bytes}
 use Rattle.storage.proofs.RowsLaws.Rows.{row-end}
 use Rattle.time_cache.specs.Tables.{ExpiryRow, expiry_row_of, expiry_rows, expiry_of, row_at, no_row}
 use Rattle.time_cache.proofs.ExpiryLaws.{row-at, length-expiry_rows}
-use Rattle.block.specs.View.{four_at}
-use Rattle.block.specs.Sound.{Adjoining}
-use Rattle.block.specs.Sound.Adjoining.{done as last, next as then}
+use Rattle.block.specs.Layout.{table}
+use Rattle.block.specs.View.{four_at, limits_of}
+use Rattle.block.specs.Sound.{adjoin, Sound}
+use Rattle.block.specs.declared.head.Head.{Head}
 use Rattle.block.specs.Contents.Starts.{start_of, len_of, first_start, RowsAdjoin, done, next, with_start, with_len, shifted_row, Above}
+use Rattle.block.specs.Contents.CacheSteps.{cached_rows}
 
 -- start and length in the bytes of a row
 pub start-bytes : (row : List ℕ) → start_of (expiry_row_of row) ≡ four_at 40 row
@@ -23,15 +27,28 @@ pub len-bytes : (row : List ℕ) → len_of (expiry_row_of row) ≡ four_at 44 r
 unfolding expiry_row_of four_at part
 len-bytes row = ap (λ (z : List ℕ). le_nat (take 4 z)) (drop-drop 4 40 row)
 
-pub of-adjoining : {a e : ℕ} {rs : List (List ℕ)} → Adjoining a rs e → RowsAdjoin a (map expiry_row_of rs) e
-of-adjoining last = done
-of-adjoining {a} {e} (then row more s r) =
-    next (expiry_row_of row) (map expiry_row_of more) (start-bytes row ∙ s) (subst (λ (b : ℕ). RowsAdjoin (a + b) (map expiry_row_of more) e) (sym (len-bytes row)) (of-adjoining r))
+-- the first of rows that adjoin, and those behind it
+adjoin_first : (a : ℕ) (row : List ℕ) (more : List (List ℕ)) (e : ℕ) → adjoin a (row ∷ more) e ≡ true → (four_at 40 row ≡ a) × (adjoin (a + four_at 44 row) more e ≡ true)
+unfolding adjoin
+adjoin_first a row more e h =
+    let here : Bool = eqb (four_at 40 row) a in
+    let rest : Bool = adjoin (a + four_at 44 row) more e in
+    (eqb-true (four_at 40 row) a (and_left here rest h), and_right here rest h)
 
-pub to-adjoining : (a e : ℕ) (rs : List (List ℕ)) → RowsAdjoin a (map expiry_row_of rs) e → Adjoining a rs e
-to-adjoining a e [] done = last
-to-adjoining a e (row ∷ more) (next x xs s c) =
-    then row more (sym (start-bytes row) ∙ s) (to-adjoining (a + four_at 44 row) e more (subst (λ (b : ℕ). RowsAdjoin (a + b) (map expiry_row_of more) e) (len-bytes row) c))
+pub of-adjoin : (a : ℕ) (rs : List (List ℕ)) (e : ℕ) → adjoin a rs e ≡ true → RowsAdjoin a (map expiry_row_of rs) e
+unfolding adjoin
+of-adjoin a [] e h = subst (RowsAdjoin a []) (eqb-true a e h) done
+of-adjoin a (row ∷ more) e h =
+    let t = adjoin_first a row more e h in
+    next (expiry_row_of row) (map expiry_row_of more) (start-bytes row ∙ t.0)
+    (subst (λ (b : ℕ). RowsAdjoin (a + b) (map expiry_row_of more) e) (sym (len-bytes row)) (of-adjoin (a + four_at 44 row) more e t.1))
+
+pub to-adjoin : (a e : ℕ) (rs : List (List ℕ)) → RowsAdjoin a (map expiry_row_of rs) e → adjoin a rs e ≡ true
+unfolding adjoin
+to-adjoin a e [] done = eq-eqb a a refl
+to-adjoin a e (row ∷ more) (next x xs s c) =
+    and_intro (eq-eqb (four_at 40 row) a (sym (start-bytes row) ∙ s))
+    (to-adjoin (a + four_at 44 row) e more (subst (λ (b : ℕ). RowsAdjoin (a + b) (map expiry_row_of more) e) (len-bytes row) c))
 
 pub chain-ends : {a e : ℕ} {xs : List ExpiryRow} → RowsAdjoin a xs e → a ≤ e
 chain-ends done = omega arith
@@ -159,3 +176,8 @@ pub chain_next : {a e : ℕ} {xs : List ExpiryRow} → RowsAdjoin a xs e → (p 
 chain_next done p h = absurd (omega arith)
 chain_next (next x xs s c) zero h = omega (arith, s, chain_first c)
 chain_next (next x xs s c) (suc p) h = chain_next c p (omega arith)
+
+-- the rows of a sound block
+pub chain-of : (h : Head) (xs : List ℕ) → Sound h xs → RowsAdjoin 0 (cached_rows h xs) h.live.contents
+unfolding expiry_rows
+chain-of h xs sound = of-adjoin 0 (rows 48 h.live.cached_rows (table (limits_of h.limits) 5 xs)) h.live.contents sound.laid.contents

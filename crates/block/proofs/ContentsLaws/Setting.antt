@@ -10,9 +10,9 @@ use Rattle.storage.specs.Rows.Sorted.{Ascending, Here, Between}
 use Rattle.storage.proofs.RowsLaws.Parts.{length_part}
 use Rattle.storage.proofs.RowsLaws.Digits.{length-le_bytes}
 use Rattle.storage.specs.Refs.Refs.{Ref, ref, refs, places, Below}
-use Rattle.storage.proofs.RefsLaws.Places.{get_or-map-in, length-refs}
+use Rattle.storage.proofs.RefsLaws.Places.{get_or-map-in}
 use Rattle.time_cache.specs.TimeCache.{Timed, Cache, value_of, get, with_value, replace}
-use Rattle.time_cache.specs.Tables.{ExpiryRow, expiry_rows, row_at, named, entry_of, cache_of, refs_at}
+use Rattle.time_cache.specs.Tables.{ExpiryRow, expiry_rows, row_at, named, entry_of, cache_of}
 use Rattle.time_cache.specs.Steps.{ref_at}
 use Rattle.time_cache.proofs.Orders.{up_of}
 use Rattle.time_cache.proofs.ExpiryLaws.{length-expiry_rows}
@@ -28,12 +28,12 @@ use Rattle.block.specs.Goes.{Goes}
 use Rattle.block.specs.Heads.{with_cached_counts}
 use Rattle.block.specs.declared.head.Head.{Head}
 use Rattle.block.proofs.Tables.{frame, length-table}
-use Rattle.block.specs.TimeCaches.{cached_cache}
+use Rattle.block.specs.Caches.CachedReads.{row_of}
 use Rattle.block.specs.Caches.InBlock.{InOrder}
 use Rattle.block.proofs.CachesLaws.CacheLaws.{refs-in}
 use Rattle.block.specs.Contents.Starts.{start_of, len_of, RowsAdjoin, with_len, shifted_row, Above}
 use Rattle.block.specs.Contents.CacheSteps.{refill_with, refill, refilled, cached_rows, Others, Shifts, Resized}
-use Rattle.block.proofs.ContentsLaws.RowsAdjoin.{of-adjoining, chain-at, chain-drop, chain_next, chain-above, wide_rows}
+use Rattle.block.proofs.ContentsLaws.RowsAdjoin.{chain-at, chain-drop, chain_next, chain-above, wide_rows, chain-of}
 use Rattle.block.proofs.ContentsLaws.Contents.{place-low}
 use Rattle.block.proofs.ContentsLaws.Resizing.{no_entry, sum-put, refill-set, rows_then, store_then, chain-then, expiry-then, content-new, content-kept}
 use Rattle.block.proofs.ContentsLaws.Closing.{others-of, move-frame, cached-state, cached-fit, cached-laid}
@@ -95,8 +95,7 @@ module _ (h : Head) (xs content : List ℕ) (p : ℕ) (sound : Sound h xs) (hp :
   count = length-expiry_rows 48 m (table l 5 xs)
 
   pub chain : RowsAdjoin 0 rs u
-  unfolding expiry_rows
-  chain = of-adjoining sound.laid.contents
+  chain = chain-of h xs sound
 
   pub row_ends : a + o ≤ u
   row_ends = (chain-at chain p (omega (arith, count))).1
@@ -176,7 +175,7 @@ module _ (h : Head) (xs content : List ℕ) (p : ℕ) (sound : Sound h xs) (hp :
 
 -- what it is to the state
 module _ (h : Head) (xs content : List ℕ) (id i : ℕ) (sound : Sound h xs) (order : InOrder (state_of h xs).cache) (hd : Here (keys (state_of h xs).cache.entries) id i)
-    (within : held (refill id content (state_of h xs).cache).entries ≤ h.limits.content) where
+    (within : held (refill id content (state_of h xs).cache).entries ≤ (state_of h xs).limits.B) where
   abbrev lim : Limits
   lim = limits_of h.limits
 
@@ -198,8 +197,8 @@ module _ (h : Head) (xs content : List ℕ) (id i : ℕ) (sound : Sound h xs) (o
   abbrev rows : List ExpiryRow
   rows = cached_rows h xs
 
-  abbrev pub row_of : ℕ
-  row_of = (ref_at (refs_at (cached_cache h) xs) i).place
+  abbrev row : ℕ
+  row = row_of h xs i
 
   here : Here (keys (cache_of (cached_of store) es rows).entries) id i
   unfolding state_of cached_in
@@ -219,46 +218,46 @@ module _ (h : Head) (xs content : List ℕ) (id i : ℕ) (sound : Sound h xs) (o
   lrows : length rows ≡ mc
   lrows = length-expiry_rows 48 mc (table lim 5 xs)
 
-  names : (get_or es i (ref 0 [])).place ≡ row_of
+  names : (get_or es i (ref 0 [])).place ≡ row
   names = sym (ap (λ (z : List Ref). (ref_at z i).place) (refs-in lim 4 4 nc 5 48 mc xs (lit< tt) (omega (arith, sound.fit.within.cached)) (lit< tt) (omega (arith, sound.fit.within.cached_rows))))
 
   below : Below (length rows) (places es)
   below = subst (λ (j : ℕ). Below j (places es)) (sym lrows) sound.laid.cached
 
-  pub entry-low : i < nc
-  entry-low = omega (arith, low, length-refs 4 nc (table lim 4 xs))
-
-  pub row_low : row_of < mc
+  pub row_low : row < mc
   row_low = omega (arith, names, place-low (length rows) es below i low, lrows)
 
   chained : RowsAdjoin 0 rows uc
-  unfolding expiry_rows
-  chained = of-adjoining sound.laid.contents
+  chained = chain-of h xs sound
 
   long : length store ≡ lim.B
   long = length-table lim 6 xs (lit< tt) sound.fit.long
 
   -- the old content is as long as the row says
-  old-long : length (content_of store (row_at rows row_of).rest) ≡ len_of (row_at rows row_of)
+  old-long : length (content_of store (row_at rows row).rest) ≡ len_of (row_at rows row)
   unfolding content_of
-  old-long = length_part (start_of (row_at rows row_of)) (len_of (row_at rows row_of)) store (omega (arith, (chain-at chained row_of (omega (arith, row_low, lrows))).1, long, sound.fit.within.contents))
+  old-long = length_part (start_of (row_at rows row)) (len_of (row_at rows row)) store (omega (arith, (chain-at chained row (omega (arith, row_low, lrows))).1, long, sound.fit.within.contents))
 
-  old-at : length (get_or (state_of h xs).cache.entries i no_entry).value.value.content ≡ len_of (row_at rows row_of)
+  old-at : length (get_or (state_of h xs).cache.entries i no_entry).value.value.content ≡ len_of (row_at rows row)
   unfolding state_of cached_in cache_of cached_of
   old-at =
       ap (λ (e : Entry (Timed Cached)). length e.value.value.content) (get_or-map-in (entry_of (cached_of store) rows) es i no_entry (ref 0 []) low)
       ∙ ap (λ (q : ℕ). length (content_of store (row_at rows q).rest)) names
       ∙ old-long
 
-  pub set_room : uc + length content ≤ h.limits.content + len_of (row_at rows row_of)
+  room-in : held (refill id content (state_of h xs).cache).entries ≤ h.limits.content
+  unfolding state_of
+  room-in = within
+
+  pub set_room : uc + length content ≤ h.limits.content + len_of (row_at rows row)
   set_room =
       let u : held (state_of h xs).cache.entries ≡ uc = unfold state_of in sound.laid.used in
-      omega (arith, held-refill content (state_of h xs).cache id i order.up hd, within, old-at, u)
+      omega (arith, held-refill content (state_of h xs).cache id i order.up hd, room-in, old-at, u)
 
-  pub set-goes : (r : Head) (ys : List ℕ) → Resized h row_of content xs r ys → Goes (refilled id content) h xs r ys
+  pub set-goes : (r : Head) (ys : List ℕ) → Resized h row content xs r ys → Goes (refilled id content) h xs r ys
   unfolding state_of cached_in cache_of
   set-goes r ys z =
-      let p : ℕ = row_of in
+      let p : ℕ = row in
       let hp : p < length rows = omega (arith, row_low, lrows) in
       let q : p + 1 ≡ suc p = add-one p in
       let len : ℕ = len_of (row_at rows p) in

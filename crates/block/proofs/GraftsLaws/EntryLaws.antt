@@ -1,7 +1,8 @@
 -- A new entry among the grafted messages: what the insert and the zeros after it leave, and the first peer of it.
 -- Assumes nothing.
-use Rattle.std.proofs.Common.{◌≡◌, refl, sym, ap, ◌∙◌, subst, ◌⊎◌, inl, inr, List, [], ◌∷◌, ◌++◌, map, ℕ, zero, suc, ◌+◌, ◌*◌, ◌^◌, ◌≤◌, ◌<◌, arith, lit<, length, take, drop, get_or, Result, Ok, Err}
+use Rattle.std.proofs.Common.{◌≡◌, refl, sym, ap, ◌∙◌, subst, ◌⊎◌, inl, inr, List, [], ◌∷◌, ◌++◌, map, ℕ, zero, suc, ◌+◌, ◌*◌, ◌^◌, ◌≤◌, ◌<◌, arith, lit<, length, take, drop, get_or, length-take-le, Result, Ok, Err}
 use lib.ListN.{length-map}
+use lib.Seq.{get_or_at}
 use Rattle.storage.specs.Lists.Map.{Entry, entry, keys}
 use Rattle.storage.proofs.ListsLaws.MapLaws.{ascending-insert}
 use Rattle.storage.specs.Rows.Part.{part, put}
@@ -32,16 +33,16 @@ use Rattle.block.specs.Heads.{with_grafted_counts}
 use Rattle.block.specs.HopSteps.{pushed_hop}
 use Rattle.block.specs.LinkSteps.{peer_at}
 use Rattle.block.specs.declared.head.Head.{Head}
+use Rattle.block.proofs.LinkLaws.{count-links}
 use Rattle.block.proofs.Scans.{keys-apart}
 use Rattle.block.proofs.HopLaws.{pushed_long, hops-push, numbered_pushed}
 use Rattle.block.specs.TimeCaches.{cache_from, grafted_cache}
 use Rattle.block.specs.Caches.InBlock.{InOrder, AtMost}
-use Rattle.block.specs.Caches.GraftSteps.{grafted_at, no_grafts, entered_state, Enters}
+use Rattle.block.specs.Caches.GraftSteps.{grafted_at, no_grafts, entered_state, EnteredAt}
 use Rattle.block.proofs.CachesLaws.CacheLaws.{refs-in, rows_in, count_entries, count-expiry, inserted-in}
-use Rattle.block.proofs.CachesLaws.GraftedLaws.{peers_of, EachOwn, Listed, to-own, grafted-state, grafted-laid}
+use Rattle.block.proofs.CachesLaws.GraftedLaws.{peers_of, EachOwn, Listed, to-own, count-grafted, grafted-state, grafted-laid}
 use Rattle.block.proofs.CachesLaws.GraftLaws.{grafted-entry, graft-many, list-long, list-numbered, peers-row}
 use Rattle.block.proofs.CachesLaws.GraftWrites.{peers-goes}
-use Rattle.steps.specs.declared.grafts.note.Entered.{Entered}
 
 -- the zeros of a new entry: no `first`, no `kept`, no peer
 abbrev zeros : List ℕ
@@ -54,12 +55,6 @@ no-grafts ps own rest = refl
 no-numbers : (m : ℕ) (own : List ℕ) → Listed m (put 0 zeros own)
 unfolding put le_bytes
 no-numbers m own = record { few = omega arith; below = record { below = λ i h. absurd (omega arith) } }
-
--- what was put into a list stands where it was put
-gap_at : {A : Type 0} (n : ℕ) (y d : A) (ms : List A) → n ≤ length ms → get_or (take n ms ++ (y ∷ drop n ms)) n d ≡ y
-gap_at zero y d ms h = refl
-gap_at (suc n) y d [] h = absurd (omega arith)
-gap_at (suc n) y d (m ∷ ms) h = gap_at n y d ms (omega arith)
 
 -- rows of places with one more: each is that one, or one of those that were there
 module _ (P : List ℕ → Type 0) (x : Ref) where
@@ -110,7 +105,7 @@ anew-each P es e r h p either alone = record { each = λ j l. go j (omega (arith
     go j l (inr (inr a)) = other j l (λ z. omega arith) (either j l) (get_or-put-after e j (ref 0 []) (r ∷ []) es (omega arith) (omega arith))
 
 module _ (h : Head) (xs ys : List ℕ) (id expires : ℕ) (t : Inserted) (sound : Sound h xs) (len : length ys ≡ length xs)
-    (most : AtMost h.limits.grafted (put_in id no_grafts expires (state_of h xs).grafted)) (v : Inserts (grafted_cache h) id expires xs t ys) where
+    (most : AtMost (state_of h xs).limits.G (put_in id no_grafts expires (state_of h xs).grafted)) (v : Inserts (grafted_cache h) id expires xs t ys) where
   abbrev l : Limits
   l = limits_of h.limits
 
@@ -173,7 +168,7 @@ module _ (h : Head) (xs ys : List ℕ) (id expires : ℕ) (t : Inserted) (sound 
       let named-row : r.place ≡ t.row = ap (λ (k : TimeBoundCache). (ref_at (refs_at k ys) e).place) (sym sized) ∙ v.names in
       let rs : List ExpiryRow = rows_at (grafted_cache h) xs in
       let at : row_at (rows_at t.cache ys) t.row ≡ expiry_row expires id (row_at (rows_at t.cache ys) t.row).rest =
-      ap (λ (k : List ExpiryRow). row_at k t.row) v.rows ∙ gap_at t.row (expiry_row expires id (row_at (rows_at t.cache ys) t.row).rest) no_row rs (omega (arith, v.row, length-rs (grafted_cache h) xs)) in
+      ap (λ (k : List ExpiryRow). row_at k t.row) v.rows ∙ get_or_at (take t.row rs) (expiry_row expires id (row_at (rows_at t.cache ys) t.row).rest) (drop t.row rs) no_row t.row (length-take-le t.row rs (omega (arith, v.row, length-rs (grafted_cache h) xs))) in
       (λ k. (row_at (rows_at (sym sized k) ys) (named-row k)).key) ∙ ap (λ (y : ExpiryRow). y.key) at
 
   zs-long : length zs ≡ length xs
@@ -192,11 +187,11 @@ module _ (h : Head) (xs ys : List ℕ) (id expires : ℕ) (t : Inserted) (sound 
       ∙ ap (λ (g : Grafts). put_in id g expires (state_of h xs).grafted) (no-grafts ps r.own x.rest)
 
   hn : n' ≤ l.G
-  unfolding grafted_in
+  unfolding grafted_in state_of
   hn = omega (arith, most.entries, sym (count_entries l 7 119 n' 8 40 m' zs (lit< tt) wn (lit< tt) wm (grafts_of ps)) ∙ ap (λ (k : Cache Grafts). length k.entries) all)
 
   hm : m' ≤ 2 * l.G
-  unfolding grafted_in
+  unfolding grafted_in state_of
   hm = omega (arith, most.expiry, sym (count-expiry l 7 119 n' 8 40 m' zs (lit< tt) wn (lit< tt) wm (grafts_of ps)) ∙ ap (λ (k : Cache Grafts). length k.expiry) all)
 
   only : OnlyTwo (place l 7) (119 * (l.G + 1)) (place l 8) (40 * (2 * l.G + 1)) xs zs
@@ -239,11 +234,14 @@ module _ (h : Head) (xs ys : List ℕ) (id expires : ℕ) (t : Inserted) (sound 
   abbrev pub new : Head
   new = with_grafted_counts n' m' h
 
-  entered-goes : Goes (entered_state id expires) h xs new zs
+  pub entered-goes : Goes (entered_state id expires) h xs new zs
   entered-goes = record {
     state = grafted-state h xs zs sound n' m' (119 * (l.G + 1)) (40 * (2 * l.G + 1)) (omega arith) (omega arith) zs-long only ∙ ap (λ (k : Cache Grafts). with_grafted k (state_of h xs)) all;
     sound = grafted-laid h xs zs sound n' m' (119 * (l.G + 1)) (40 * (2 * l.G + 1)) (omega arith) (omega arith) zs-long only hn hm (own-sound c ys s e v.entry lies 0 zeros wide) lists;
   }
+
+  entry-in : e < length (state_of new zs).grafted.entries
+  entry-in = omega (arith, v.entry, count-grafted new zs entered-goes.sound.fit)
 
   -- the entry in the view
   there : grafted_at (state_of new zs) e ≡ entry_for (grafts_of (peers_of new zs)) (ref r.place (put 0 zeros r.own)) x
@@ -252,18 +250,16 @@ module _ (h : Head) (xs ys : List ℕ) (id expires : ℕ) (t : Inserted) (sound 
       let rf : refs 119 n' (table l 7 zs) ≡ k = sym (refs-in l 7 119 n' 8 40 m' zs (lit< tt) wn (lit< tt) wm) ∙ own-refs c ys s e v.entry lies 0 zeros wide in
       let rw1 : expiry_rows 40 m' (table l 8 zs) ≡ rows_at c ys = sym (rows_in l 7 119 n' 8 40 m' zs (lit< tt) wn (lit< tt) wm) ∙ own-rows c ys s e v.entry lies 0 zeros wide in
       let mine : ref_at k e ≡ ref r.place (put 0 zeros r.own) = put-get_or-same e (ref r.place (put 0 zeros r.own)) (ref 0 []) es (omega (arith, v.entry, length-es c ys)) in
-      grafted-entry new zs entered-goes.sound e v.entry
+      grafted-entry new zs entered-goes.sound e entry-in
       ∙ (λ z. entry_for (grafts_of (peers_of new zs)) (ref_at (rf z) e) (row_at (rw1 z) (ref_at (rf z) e).place))
       ∙ (λ z. entry_for (grafts_of (peers_of new zs)) (mine z) (row_at (rows_at c ys) (mine z).place))
 
-  pub entered : (g : Entered) → g ≡ record { head = new; entry = e } → Enters id expires h xs g zs
-  entered g same = subst (λ (k : Entered). Enters id expires h xs k zs) (sym same) (record {
-    goes = entered-goes;
-    below = v.entry;
-    links = refl;
+  pub entered : EnteredAt id (state_of new zs) e
+  entered = record {
+    below = entry-in;
     key = ap (λ (y : Entry (Timed Grafts)). y.key) there ∙ key;
     none = ap (λ (y : Entry (Timed Grafts)). y.value.value) there ∙ no-grafts (peers_of new zs) r.own x.rest;
-  })
+  }
 
 -- the first peer of a new entry
 put_order : (id expires : ℕ) (g : Grafts) (c : Cache Grafts) → InOrder c → InOrder (put_in id g expires c)
@@ -273,13 +269,8 @@ put_order id expires g c o = record {
   order = order-added (record { time = expires; key = id }) c.expiry o.order;
 }
 
-module _ (h : Head) (xs ys : List ℕ) (id expires link rd : ℕ) (g : Entered) (order : InOrder (state_of h xs).grafted) (v : Enters id expires h xs g ys) (ql : link < h.live.links) (hr : rd < 256 ^ 2) where
-  abbrev k : Head
-  k = g.head
-
-  abbrev en : ℕ
-  en = g.entry
-
+module _ (h k : Head) (xs ys : List ℕ) (id expires link rd en : ℕ) (sound : Sound k ys) (order : InOrder (state_of h xs).grafted) (same : state_of k ys ≡ entered_state id expires (state_of h xs))
+    (v : EnteredAt id (state_of k ys) en) (ql : link < length (state_of h xs).links) (hr : rd < 256 ^ 2) where
   abbrev spot : ℕ
   spot = place (limits_of k.limits) 7 + 119 * en + 22
 
@@ -290,10 +281,13 @@ module _ (h : Head) (xs ys : List ℕ) (id expires link rd : ℕ) (g : Entered) 
   f = round_of (peers_of k ys)
 
   pub none_yet : get_or ys spot 0 ≡ 0
-  none_yet = graft-many k ys v.goes.sound en v.below ∙ ap (λ (z : Grafts). length z.peers) v.none
+  none_yet = graft-many k ys sound en v.below ∙ ap (λ (z : Grafts). length z.peers) v.none
 
   order' : InOrder (state_of k ys).grafted
-  order' = subst (λ (z : State). InOrder z.grafted) (sym v.goes.state) (put_order id expires no_grafts (state_of h xs).grafted order)
+  order' = subst (λ (z : State). InOrder z.grafted) (sym same) (put_order id expires no_grafts (state_of h xs).grafted order)
+
+  pub link-in : link < k.live.links
+  link-in = omega (arith, ql, ap (λ (z : State). length z.links) same, count-links k ys)
 
   count : byte_at 0 list ≤ 0
   count = omega (arith, none_yet, first)
@@ -305,22 +299,22 @@ module _ (h : Head) (xs ys : List ℕ) (id expires link rd : ℕ) (g : Entered) 
 
   peer : f link (le_bytes 2 rd) ≡ entry (peer_at (state_of h xs) link) rd
   unfolding round_of state_of
-  peer = λ z. entry (get_or (keys (v.goes.state z).links) link 0) (le_nat-le_bytes 2 rd hr z)
+  peer = λ z. entry (get_or (keys (same z).links) link 0) (le_nat-le_bytes 2 rd hr z)
 
-  pub anew-goes : Goes (λ s. with_grafted (put_in id (record { first = no_grafts.first; kept = no_grafts.kept; peers = entry (peer_at s link) rd ∷ [] }) expires s.grafted) s) h xs k (put spot (pushed_hop link rd list) ys)
-  anew-goes =
-      let long : length list ≡ 97 = list-long k ys v.goes.sound en v.below in
+  pub first-goes : Goes (λ s. with_grafted (put_in id (record { first = no_grafts.first; kept = no_grafts.kept; peers = entry (peer_at s link) rd ∷ [] }) expires s.grafted) s) h xs k (put spot (pushed_hop link rd list) ys)
+  first-goes =
+      let long : length list ≡ 97 = list-long k ys sound en v.below in
       let few : byte_at 0 list < 32 = omega (arith, count) in
-      let go = peers-goes k ys v.goes.sound order' en v.below (pushed_hop link rd list) (pushed_long list long link rd few) (numbered_pushed list long link rd few k.live.links (list-numbered k ys v.goes.sound en v.below) (omega (arith, ql, v.links))) in
+      let go = peers-goes k ys sound order' en v.below (pushed_hop link rd list) (pushed_long list long link rd few) (numbered_pushed list long link rd few k.live.links (list-numbered k ys sound en v.below) link-in) in
       let value : hops_in f (pushed_hop link rd list) ≡ entry (peer_at (state_of h xs) link) rd ∷ [] =
       hops-push list long link rd few f
-      ∙ (λ z. (sym (peers-row k ys v.goes.sound en v.below) ∙ ap (λ (y : Grafts). y.peers) v.none) z ++ (peer z ∷ [])) in
+      ∙ (λ z. (sym (peers-row k ys sound en v.below) ∙ ap (λ (y : Grafts). y.peers) v.none) z ++ (peer z ∷ [])) in
       let one : Grafts = record { first = no_grafts.first; kept = no_grafts.kept; peers = entry (peer_at (state_of h xs) link) rd ∷ [] } in
       record {
         state =
             go.state
             ∙ (λ z. with_grafted (replace (v.key z) (record { first = (v.none z).first; kept = (v.none z).kept; peers = value z }) (state_of k ys).grafted) (state_of k ys))
-            ∙ ap (λ (y : State). with_grafted (replace id one y.grafted) y) v.goes.state
+            ∙ ap (λ (y : State). with_grafted (replace id one y.grafted) y) same
             ∙ ap (λ (y : Cache Grafts). with_grafted y (state_of h xs)) (replace-put id no_grafts one expires (state_of h xs).grafted);
         sound = go.sound;
       }

@@ -6,8 +6,7 @@ use Rattle.storage.specs.Lists.Map.{Map, Entry, entry, keys, lookup, insert}
 use Rattle.storage.specs.Rows.Part.{part, put}
 use Rattle.storage.specs.Rows.Digits.{le_bytes}
 use Rattle.storage.specs.Rows.Sorted.{Ascending, Here, Between}
-use Rattle.storage.proofs.RowsLaws.Digits.{length-le_bytes, le_nat-le_bytes}
-use Rattle.storage.proofs.RowsLaws.Parts.{put-inside}
+use Rattle.storage.proofs.RowsLaws.Digits.{le_nat-le_bytes}
 use Rattle.time_cache.specs.TimeCache.{Timed, Cache, value_of, get, put as put_in, with_value, replace}
 use Rattle.time_cache.proofs.Orders.{up_of}
 use Rattle.time_cache.proofs.MapPlaces.{insert-between, insert-here, lookup-here, lookup-between}
@@ -15,16 +14,17 @@ use Rattle.protocol.specs.State.{State, Grafts, with_grafted}
 use Rattle.protocol.specs.Control.{lower, with_graft}
 use Rattle.block.specs.Layout.{place}
 use Rattle.block.specs.View.{state_of, limits_of, byte_at, peer_of, round_of, hops_in}
-use Rattle.block.specs.Sound.{Numbered}
+use Rattle.block.specs.Sound.{Numbered, Sound}
 use Rattle.block.specs.Goes.{Goes}
 use Rattle.block.specs.LinkSteps.{peer_at}
 use Rattle.block.specs.MissingSteps.{hop}
 use Rattle.block.specs.declared.head.Head.{Head}
+use Rattle.block.proofs.LinkLaws.{count-links}
 use Rattle.block.proofs.HopLaws.{count-hops, hop-in}
 use Rattle.block.proofs.AnnounceLaws.{insert-same, insert-long}
 use Rattle.block.specs.Caches.InBlock.{AtMost}
 use Rattle.block.specs.Caches.GraftSteps.{grafted_at, grafts_at, Grafting, peers_to, peers_with, no_grafts, graft_noted}
-use Rattle.block.proofs.CachesLaws.GraftedLaws.{peers_of, count-grafted}
+use Rattle.block.proofs.CachesLaws.GraftedLaws.{peers_of}
 use Rattle.block.proofs.CachesLaws.GraftLaws.{list-long, list-numbered, peers-row}
 use Rattle.block.proofs.CachesLaws.GraftWrites.{peers-goes}
 use Rattle.block.specs.HopSteps.{inserted_hop, round_put}
@@ -44,7 +44,7 @@ replace-same m i d z up h =
     ap (λ (o : Option (Timed Grafts)). with_value k (get_or m i d).value.value o m) (lookup-here k i d m up here)
     ∙ insert-same k i d m up here z
 
-module _ (h : Head) (xs : List ℕ) (g : Grafting h xs) (i : ℕ) (q : i < h.live.grafted) (link rd : ℕ) (ql : link < h.live.links) (hr : rd < 256 ^ 2) where
+module _ (h : Head) (xs : List ℕ) (sound : Sound h xs) (g : Grafting (state_of h xs)) (i : ℕ) (q : i < length (state_of h xs).grafted.entries) (link rd : ℕ) (ql : link < length (state_of h xs).links) (hr : rd < 256 ^ 2) where
   abbrev st : State
   st = state_of h xs
 
@@ -64,13 +64,13 @@ module _ (h : Head) (xs : List ℕ) (g : Grafting h xs) (i : ℕ) (q : i < h.liv
   f = round_of (peers_of h xs)
 
   long : length list ≡ 97
-  long = list-long h xs g.sound i q
+  long = list-long h xs sound i q
 
   num : Numbered h.live.links list
-  num = list-numbered h xs g.sound i q
+  num = list-numbered h xs sound i q
 
   row : peers ≡ hops_in f list
-  row = peers-row h xs g.sound i q
+  row = peers-row h xs sound i q
 
   many : byte_at 0 list ≡ length peers
   many = sym (ap length row ∙ count-hops list long f num.few)
@@ -84,13 +84,13 @@ module _ (h : Head) (xs : List ℕ) (g : Grafting h xs) (i : ℕ) (q : i < h.liv
   unfolding lower
   insert-goes j b =
       let hj : j ≤ byte_at 0 list = omega (arith, b.within, length-map peers (λ (e : Entry ℕ). e.key), many) in
-      let few : byte_at 0 list < 32 = omega (arith, peers-few h xs g i q link j ql b, many) in
+      let few : byte_at 0 list < 32 = omega (arith, peers-few st g i q link j (omega (arith, count-links h xs, sound.fit.within.links, sound.fit.ceilings.N)) ql b, many) in
       let value : hops_in f (inserted_hop j link rd list) ≡ peers_with i p rd st =
       hops-insert list long j link rd hj few f
       ∙ (λ z. take j (sym row z) ++ (fresh z ∷ drop j (sym row z)))
       ∙ sym (insert-between p rd j peers b)
       ∙ ap (λ (o : Option ℕ). insert p (lower o rd) peers) (sym (lookup-between p j peers b)) in
-      let go = peers-goes h xs g.sound g.order i q (inserted_hop j link rd list) (inserted-long list long j link rd hj few) (numbered-inserted list long j link rd hj few h.live.links num ql) in
+      let go = peers-goes h xs sound g.order i q (inserted_hop j link rd list) (inserted-long list long j link rd hj few) (numbered-inserted list long j link rd hj few h.live.links num (omega (arith, ql, count-links h xs))) in
       record { state = go.state ∙ ap (λ (m : Map ℕ). peers_to i m st) value; sound = go.sound }
 
   module _ (j : ℕ) (here : Here (keys peers) p j) where
@@ -102,28 +102,24 @@ module _ (h : Head) (xs : List ℕ) (g : Grafting h xs) (i : ℕ) (q : i < h.liv
 
     low : peers_with i p rd st ≡ insert p (min known rd) peers
     unfolding lower known
-    low = ap (λ (o : Option ℕ). insert p (lower o rd) peers) (lookup-here p j (entry 0 0) peers (peers-up h xs g i q) here)
+    low = ap (λ (o : Option ℕ). insert p (lower o rd) peers) (lookup-here p j (entry 0 0) peers (peers-up st g i q) here)
 
     -- a lower round
-    pub lower-goes : (k : ℕ) → (get_or peers j (entry 0 0)).value ≡ k → rd < k → Goes (λ s. peers_to i (peers_with i (peer_at s link) rd s) s) h xs h (put (at + 33 + 2 * j) (le_bytes 2 rd) xs)
+    pub lower-goes : (k : ℕ) → (get_or peers j (entry 0 0)).value ≡ k → rd < k → Goes (λ s. peers_to i (peers_with i (peer_at s link) rd s) s) h xs h (put at (round_put j rd list) xs)
     unfolding round_of known
     lower-goes k e lt =
         let jk : j < byte_at 0 list = omega (arith, there, many) in
         let few : byte_at 0 list ≤ 32 = num.few in
-        let a : at + 33 + 2 * j ≡ at + (33 + 2 * j) = omega arith in
         let key : peer_of (peers_of h xs) (get_or list (1 + j) 0) ≡ p =
-        sym (ap (λ (y : Entry ℕ). y.key) (ap (λ (m : Map ℕ). get_or m j (entry 0 0)) row ∙ hop-in list long f j (entry 0 0) jk few)) ∙ sym (key-at h xs g i q j) ∙ here.same in
+        sym (ap (λ (y : Entry ℕ). y.key) (ap (λ (m : Map ℕ). get_or m j (entry 0 0)) row ∙ hop-in list long f j (entry 0 0) jk few)) ∙ sym (key-at st g i q j) ∙ here.same in
         let m0 : min known rd ≡ rd = omega (arith, e, lt) in
         let value : hops_in f (round_put j rd list) ≡ peers_with i p rd st =
         hops-round list long j rd jk few f
         ∙ (λ z. put j (entry (key z) (le_nat-le_bytes 2 rd hr z) ∷ []) (sym row z))
-        ∙ sym (insert-here p rd j peers (peers-up h xs g i q) here)
+        ∙ sym (insert-here p rd j peers (peers-up st g i q) here)
         ∙ sym (low ∙ ap (λ (n : ℕ). insert p n peers) m0) in
-        let go = peers-goes h xs g.sound g.order i q (round_put j rd list) (round-long list long j rd jk few) (numbered-round list long j rd jk few h.live.links num) in
-        let lr : length (le_bytes 2 rd) ≡ 2 = length-le_bytes 2 rd in
-        subst (Goes (λ s. peers_to i (peers_with i (peer_at s link) rd s) s) h xs h)
-        (sym (ap (λ (b : ℕ). put b (le_bytes 2 rd) xs) a ∙ put-inside at (33 + 2 * j) 97 (le_bytes 2 rd) xs (omega arith) (omega (arith, g.sound.fit.long, g.sound.fit.within.grafted))))
-        (record { state = go.state ∙ ap (λ (m : Map ℕ). peers_to i m st) value; sound = go.sound })
+        let go = peers-goes h xs sound g.order i q (round_put j rd list) (round-long list long j rd jk few) (numbered-round list long j rd jk few h.live.links num) in
+        record { state = go.state ∙ ap (λ (m : Map ℕ). peers_to i m st) value; sound = go.sound }
 
     -- the known round
     pub same-goes : (k : ℕ) → (get_or peers j (entry 0 0)).value ≡ k → k ≤ rd → Goes (λ s. peers_to i (peers_with i (peer_at s link) rd s) s) h xs h xs
@@ -131,13 +127,13 @@ module _ (h : Head) (xs : List ℕ) (g : Grafting h xs) (i : ℕ) (q : i < h.liv
     same-goes k e le =
         let m0 : min known rd ≡ (get_or peers j (entry 0 0)).value = omega (arith, e, le) in
         let d : Entry (Timed Grafts) = entry 0 (record { expires = 0; value = record { first = None; kept = None; peers = [] } }) in
-        let value : peers_with i p rd st ≡ peers = low ∙ ap (λ (n : ℕ). insert p n peers) m0 ∙ insert-same p j (entry 0 0) peers (peers-up h xs g i q) here refl in
+        let value : peers_with i p rd st ≡ peers = low ∙ ap (λ (n : ℕ). insert p n peers) m0 ∙ insert-same p j (entry 0 0) peers (peers-up st g i q) here refl in
         let es : Map (Timed Grafts) = st.grafted.entries in
         let back : replace (grafted_at st i).key (grafts_at st i) st.grafted ≡ st.grafted = λ z. record {
-          entries = replace-same es i d refl (up_of (keys es) g.order.up) (omega (arith, count-grafted h xs g.sound.fit)) z;
+          entries = replace-same es i d refl (up_of (keys es) g.order.up) q z;
           expiry = st.grafted.expiry;
         } in
-        record { state = sym (ap (λ (m : Map ℕ). peers_to i m st) value ∙ ap (λ (c : Cache Grafts). with_grafted c st) back); sound = g.sound }
+        record { state = sym (ap (λ (m : Map ℕ). peers_to i m st) value ∙ ap (λ (c : Cache Grafts). with_grafted c st) back); sound = sound }
 
 -- the entry of an identifier that was found, and a new one
 module _ (s : State) (id link rd expires j : ℕ) where

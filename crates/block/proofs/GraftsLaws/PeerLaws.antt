@@ -10,19 +10,16 @@ use Rattle.storage.proofs.ListsLaws.Places.{all-at}
 use Rattle.storage.specs.Rows.Sorted.{Ascending, Between}
 use Rattle.time_cache.specs.TimeCache.{Timed}
 use Rattle.time_cache.proofs.Orders.{up_of}
-use Rattle.protocol.specs.Links.{is_neighbour}
+use Rattle.protocol.specs.Links.{Mark, is_neighbour}
 use Rattle.protocol.specs.State.{State, Grafts}
 use Rattle.protocol.specs.Gossips.{graft_out}
 use Rattle.protocol.specs.Whole.{grafts_whole}
 use Rattle.protocol.proofs.ConsistentTables.{Grafted, to-grafted, grafted-insert}
-use Rattle.block.specs.View.{state_of}
 use Rattle.block.specs.LinkSteps.{peer_at}
-use Rattle.block.specs.declared.head.Head.{Head}
-use Rattle.block.proofs.LinkLaws.{count-links, count-peers, neighbour-here}
+use Rattle.block.proofs.LinkLaws.{neighbour-here}
 use Rattle.block.proofs.Few.{once-few}
 use Rattle.block.proofs.AnnounceLaws.{insert-long}
 use Rattle.block.specs.Caches.GraftSteps.{grafted_at, grafts_at, Grafting}
-use Rattle.block.proofs.CachesLaws.GraftedLaws.{count-grafted}
 
 -- numbers that ascend stand once
 above-out : (x : ℕ) (xs : List ℕ) → all (ltb x) xs ≡ true → member x xs ≡ false
@@ -37,21 +34,18 @@ ascending-once (x ∷ xs) h =
     and_intro (ap not (above-out x xs (and_left (all (ltb x) xs) (ascending xs) h))) (ascending-once xs (and_right (all (ltb x) xs) (ascending xs) h))
 
 -- the peer of a link is a neighbour
-pub link_near : (h : Head) (xs : List ℕ) (link : ℕ) → Grafting h xs → link < h.live.links → is_neighbour (peer_at (state_of h xs) link) (state_of h xs).links ≡ true
-link_near h xs link g q =
-    neighbour-here (peer_at (state_of h xs) link) link (state_of h xs).links (up_of (keys (state_of h xs).links) g.links_up) (record { within = omega (arith, count-peers h xs); same = refl })
+pub link_near : (s : State) (link : ℕ) → Grafting s → link < length s.links → is_neighbour (peer_at s link) s.links ≡ true
+link_near s link g q =
+    neighbour-here (peer_at s link) link s.links (up_of (keys s.links) g.links_up) (record { within = omega (arith, length-map s.links (λ (e : Entry Mark). e.key)); same = refl })
 
-module _ (h : Head) (xs : List ℕ) (g : Grafting h xs) (i : ℕ) (q : i < h.live.grafted) where
-  abbrev st : State
-  st = state_of h xs
-
+module _ (s : State) (g : Grafting s) (i : ℕ) (q : i < length s.grafted.entries) where
   abbrev peers : Map ℕ
-  peers = (grafts_at st i).peers
+  peers = (grafts_at s i).peers
 
-  grafts-whole : Grafted st.links peers
+  grafts-whole : Grafted s.links peers
   grafts-whole =
       let d : Entry (Timed Grafts) = entry 0 (record { expires = 0; value = record { first = None; kept = None; peers = [] } }) in
-      to-grafted st.links (grafted_at st i) (all-at (grafts_whole st.links) d st.grafted.entries g.whole i (omega (arith, count-grafted h xs g.sound.fit)))
+      to-grafted s.links (grafted_at s i) (all-at (grafts_whole s.links) d s.grafted.entries g.whole i q)
 
   pub peers-ascend : ascending (keys peers) ≡ true
   peers-ascend = grafts-whole.up
@@ -63,13 +57,13 @@ module _ (h : Head) (xs : List ℕ) (g : Grafting h xs) (i : ℕ) (q : i < h.liv
   key-at j = get_or-map (λ (e : Entry ℕ). e.key) peers j (entry 0 0)
 
   -- a peer of a link that is not among them finds room
-  pub peers-few : (link j : ℕ) → link < h.live.links → Between (keys peers) (peer_at st link) j → length peers < 32
-  peers-few link j ql b =
-      let p : ℕ = peer_at st link in
+  pub peers-few : (link j : ℕ) → length s.links ≤ 32 → link < length s.links → Between (keys peers) (peer_at s link) j → length peers < 32
+  peers-few link j few ql b =
+      let p : ℕ = peer_at s link in
       let m : Map ℕ = insert p 0 peers in
-      let w : Grafted st.links m = grafted-insert st.links p 0 peers (link_near h xs link g ql) grafts-whole in
-      let most : length (keys m) ≤ length st.links = once-few st.links (keys m) (ascending-once (keys m) w.up) (all_map (λ n. has n st.links) (λ (e : Entry ℕ). e.key) m ∙ w.near) in
-      omega (arith, most, length-map m (λ (e : Entry ℕ). e.key), insert-long p j 0 0 peers peers-up b, count-links h xs, g.sound.fit.within.links, g.sound.fit.ceilings.N)
+      let w : Grafted s.links m = grafted-insert s.links p 0 peers (link_near s link g ql) grafts-whole in
+      let most : length (keys m) ≤ length s.links = once-few s.links (keys m) (ascending-once (keys m) w.up) (all_map (λ n. has n s.links) (λ (e : Entry ℕ). e.key) m ∙ w.near) in
+      omega (arith, most, length-map m (λ (e : Entry ℕ). e.key), insert-long p j 0 0 peers peers-up b)
 
 -- a graft is out
 pub out-away : (sender round : ℕ) (m : Map ℕ) (t : Bool) → any (λ e. leb e.value round) m ≡ true → t ≡ has sender m → not t ≡ graft_out sender round m

@@ -1,6 +1,6 @@
 -- What the bytes of a grafted message say: its `first` and its `kept`.
 -- Assumes nothing.
-use Rattle.std.proofs.Common.{◌≡◌, ap, ◌∙◌, Bool, true, false, List, [], ℕ, ◌+◌, ◌*◌, ◌≤◌, ◌<◌, arith, eq-eqb, ne_eqb, lit<, take, drop, get_or, drop-drop, get_or-drop, if◌then◌else◌, Some, None}
+use Rattle.std.proofs.Common.{◌≡◌, ap, ◌∙◌, Bool, true, false, List, [], ℕ, ◌+◌, ◌*◌, ◌≤◌, ◌<◌, arith, eq-eqb, ne_eqb, lit<, length, take, drop, get_or, drop-drop, get_or-drop, if◌then◌else◌, Some, None}
 use Rattle.storage.specs.Lists.Map.{Entry}
 use Rattle.storage.specs.Rows.Part.{part}
 use Rattle.storage.specs.Rows.Digits.{le_nat}
@@ -17,11 +17,14 @@ use Rattle.block.specs.MissingSteps.{hop}
 use Rattle.block.specs.declared.head.Head.{Head}
 use Rattle.block.proofs.Tables.{field_in, byte-in}
 use Rattle.block.specs.Caches.GraftSteps.{grafts_at}
-use Rattle.block.proofs.CachesLaws.GraftLaws.{grafted-entry}
+use Rattle.block.proofs.CachesLaws.GraftLaws.{entry-below, grafted-entry}
 
-module _ (h : Head) (xs : List ℕ) (sound : Sound h xs) (i : ℕ) (q : i < h.live.grafted) (a : ℕ) (at : a ≡ place (limits_of h.limits) 7 + 119 * i) where
+module _ (h : Head) (xs : List ℕ) (sound : Sound h xs) (i : ℕ) (there : i < length (state_of h xs).grafted.entries) (a : ℕ) (at : a ≡ place (limits_of h.limits) 7 + 119 * i) where
   abbrev l : Limits
   l = limits_of h.limits
+
+  q : i < h.live.grafted
+  q = entry-below h xs sound i there
 
   abbrev own : List ℕ
   own = (ref_at (refs 119 h.live.grafted (table l 7 xs)) i).own
@@ -35,7 +38,7 @@ module _ (h : Head) (xs : List ℕ) (sound : Sound h xs) (i : ℕ) (q : i < h.li
       let e : place l 7 + (i * 119 + (2 + o)) ≡ a + (2 + o) = omega (arith, at) in
       ap (λ (b : List ℕ). get_or b o 0) own_row
       ∙ get_or-drop 2 (part (i * 119) 119 (table l 7 xs)) o 0
-      ∙ byte-in l 7 119 i (2 + o) xs (lit< tt) w (omega (arith, sound.fit.within.grafted))
+      ∙ byte-in l 7 119 i (2 + o) xs (lit< tt) w (omega (arith, q, sound.fit.within.grafted))
       ∙ ap (λ (n : ℕ). get_or xs n 0) e
 
   own-part : (o k : ℕ) → 2 + o + k ≤ 119 → part o k own ≡ part (a + (2 + o)) k xs
@@ -45,19 +48,19 @@ module _ (h : Head) (xs : List ℕ) (sound : Sound h xs) (i : ℕ) (q : i < h.li
       let z : o + 2 ≡ 2 + o = omega arith in
       ap (part o k) own_row
       ∙ ap (take k) (drop-drop o 2 (part (i * 119) 119 (table l 7 xs)))
-      ∙ field_in l 7 119 i (2 + o) k xs (lit< tt) w (omega (arith, sound.fit.within.grafted))
+      ∙ field_in l 7 119 i (2 + o) k xs (lit< tt) w (omega (arith, q, sound.fit.within.grafted))
       ∙ ap (λ (n : ℕ). part n k xs) e
 
   pub read_first : (grafts_at (state_of h xs) i).first ≡ only_if (flag_of (get_or xs (a + 2) 0)) (hop (le_nat (part (a + 3) 8 xs)) (le_nat (part (a + 11) 2 xs)))
   unfolding grafts_of field_of half_at
   read_first =
-      ap (λ (e : Entry (Timed Grafts)). e.value.value.first) (grafted-entry h xs sound i q)
+      ap (λ (e : Entry (Timed Grafts)). e.value.value.first) (grafted-entry h xs sound i there)
       ∙ (λ k. only_if (flag_of (own-byte 0 (omega arith) k)) (hop (le_nat (own-part 1 8 (omega arith) k)) (le_nat (own-part 9 2 (omega arith) k))))
 
   pub read_kept : (grafts_at (state_of h xs) i).kept ≡ only_if (flag_of (get_or xs (a + 13) 0)) (le_nat (part (a + 14) 8 xs))
   unfolding grafts_of field_of
   read_kept =
-      ap (λ (e : Entry (Timed Grafts)). e.value.value.kept) (grafted-entry h xs sound i q)
+      ap (λ (e : Entry (Timed Grafts)). e.value.value.kept) (grafted-entry h xs sound i there)
       ∙ (λ k. only_if (flag_of (own-byte 11 (omega arith) k)) (le_nat (own-part 12 8 (omega arith) k)))
 
 -- a flag that is 0, and one that is not

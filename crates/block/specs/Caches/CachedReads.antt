@@ -2,6 +2,8 @@
 -- Assumes nothing.
 use Rattle.std.specs.Prelude.{ℕ, ◌≡◌, List, [], get_or, Option, Some, None, option_map}
 use Rattle.storage.specs.Lists.Map.{entry}
+use Rattle.time_cache.specs.Tables.{refs_at}
+use Rattle.time_cache.specs.Steps.{ref_at}
 use Rattle.time_cache.specs.Gone.{key_of_row}
 use Rattle.protocol.specs.State.{State, Cached}
 use Rattle.block.specs.TimeCaches.{cached_cache}
@@ -12,6 +14,10 @@ use Rattle.block.specs.declared.caches.cached.CachedMessage.{CachedMessage}
 -- cached message i
 abbrev pub cached_at : State → ℕ → Cached
 cached_at s i = (get_or s.cache.entries i (entry 0 (record { expires = 0; value = record { content = []; round = 0 } }))).value.value
+
+-- the row that cached message i has
+abbrev pub row_of : Head → List ℕ → ℕ → ℕ
+row_of h block i = (ref_at (refs_at (cached_cache h) block) i).place
 
 -- the identifier of an expiry row
 abbrev pub row_id : Head → List ℕ → ℕ → ℕ

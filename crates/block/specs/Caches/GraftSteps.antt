@@ -1,8 +1,9 @@
 -- What is read from a grafted message, and the steps on it.
 -- Assumes nothing.
-use Rattle.std.specs.Prelude.{ℕ, ◌<◌, ◌≡◌, true, [], length, get_or, Option, Some, None, option_map}
+use Rattle.std.specs.Prelude.{ℕ, ◌<◌, ◌≡◌, true, List, [], ◌∷◌, ◌++◌, length, get_or, Option, Some, None, option_map}
 use Rattle.storage.specs.Lists.Base.{all, ascending}
 use Rattle.storage.specs.Lists.Map.{Map, Entry, entry, keys, lookup, insert}
+use Rattle.storage.specs.Rows.Digits.{le_bytes}
 use Rattle.time_cache.specs.TimeCache.{Timed, get, put, replace}
 use Rattle.protocol.specs.State.{State, Grafts, Hop, with_grafted}
 use Rattle.protocol.specs.Whole.{grafts_whole}
@@ -20,6 +21,13 @@ grafted_at s i = get_or s.grafted.entries i (entry 0 (record { expires = 0; valu
 -- the grafts of grafted message i
 abbrev pub grafts_at : State → ℕ → Grafts
 grafts_at s i = (grafted_at s i).value.value
+
+-- the bytes of a first copy that came, and of a peer that is kept
+abbrev pub first_bytes : ℕ → ℕ → List ℕ
+first_bytes p r = 1 ∷ (le_bytes 8 p ++ le_bytes 2 r)
+
+abbrev pub kept_bytes : ℕ → List ℕ
+kept_bytes p = 1 ∷ le_bytes 8 p
 
 -- peer j of the grafts, by the number of its link
 pub record GraftIs (s : State) (peers : Map ℕ) (j : ℕ) (r : LinkHop) : Type 0 where

@@ -65,11 +65,11 @@ impl PanelCache for MessageCache {
 }
 
 impl<'a> View<'a> {
-    ghost use Rattle.std.specs.Prelude.{◌≡◌, ◌<◌, not, All, map, length};
+    ghost use Rattle.std.specs.Prelude.{◌≡◌, ◌<◌, ◌≤◌, not, All, map, length};
     ghost use Rattle.storage.specs.Rows.Ident.{id_of};
     ghost use Rattle.storage.specs.Lists.Base.{is_empty};
     ghost use Rattle.time_cache.specs.TimeCache.{holds, get, due, expired_keys};
-    ghost use Rattle.block.specs.Caches.CachedReads.{cached_at, row_id, RoundOf};
+    ghost use Rattle.block.specs.Caches.CachedReads.{cached_at, row_of, row_id, RoundOf};
     ghost use Rattle.block.specs.Caches.InBlock.{InOrder};
     ghost use Rattle.block.specs.Views.{shown};
 
@@ -81,13 +81,22 @@ impl<'a> View<'a> {
         MessageCache::contains_key(self, id)
     }
 
+    // The row that a cached message has.
+    fn cached_row(&self, entry: usize) -> usize
+        requires { entry < length (shown self.now).cache.entries }
+        ensures at { result ≡ row_of self.now.head.now self.now.block.now entry }
+        ensures within { result < self.now.head.now.live.cached_rows }
+    {
+        MessageCache::table(self.head).place(self.block, entry)
+    }
+
     // The content of a cached message, where it stands in the block.
     pub fn cached_content(&self, entry: usize) -> &'a [u8]
         requires { entry < length (shown self.now).cache.entries }
-        ensures { result.now ≡ (cached_at (shown self.now) entry).content }
+        ensures content { result.now ≡ (cached_at (shown self.now) entry).content }
+        ensures few { length result.now ≤ (shown self.now).limits.B }
     {
-        let place = MessageCache::table(self.head).place(self.block, entry);
-        let row = head::cached_rows_at(self.head.limits) + ROW_WIDTH * place;
+        let row = head::cached_rows_at(self.head.limits) + ROW_WIDTH * self.cached_row(entry);
         let start = word::load4(self.block, row + START) as usize;
         let len = word::load4(self.block, row + LEN) as usize;
         let at = head::contents_at(self.head.limits) + start;
@@ -156,12 +165,7 @@ impl<'a> Panel<'a> {
         requires { InOrder (state self.old).cache }
         ensures { Goes (cached_left instant.0) self.old self.new }
     {
-        let cache = MessageCache::table(&self.head);
-        let expired = cache.expire_until(self.block, instant, &mut []);
-        let mut head = self.head;
-        head.live.cached = expired.cache.entries.len;
-        head.live.cached_rows = expired.cache.expiry.len;
-        self.head = contents::close_contents(head, self.block);
+        self.head = contents::expire_contents(self.head, self.block, instant);
     }
 
     // Gives a cached message another content, and leaves a message that is not cached. Its time is that of one pass over the contents and the rows behind it.
@@ -171,24 +175,9 @@ impl<'a> Panel<'a> {
         ensures { Goes (refilled (id_of id) content.now) self.old self.new }
     {
         if let Ok(entry) = MessageCache::find(&self.view(), id) {
-            let place = MessageCache::table(&self.head).place(self.block, entry);
-            self.head = contents::resize_row(self.head, self.block, place, content);
+            let row = self.view().cached_row(entry);
+            self.head = contents::resize_row(self.head, self.block, row, content);
         }
-    }
-
-    // Puts a message in without its content: requires that no content is left of an entry that it overwrites.
-    fn insert_empty(&mut self, id: Id, round: Round, expires: Millis)
-        requires order { InOrder (state self.old).cache }
-        requires room { AtMost (state self.old).limits.C (put (id_of id) (message [] round.0) expires.0 (state self.old).cache) }
-        requires empty { held (put (id_of id) (message [] round.0) expires.0 (state self.old).cache).entries ≡ held (state self.old).cache.entries }
-        ensures { Goes (cached_also (id_of id) [] round.0 expires.0) self.old self.new }
-    {
-        let cache = MessageCache::table(&self.head);
-        let inserted = cache.insert(self.block, id, expires);
-        self.head.live.cached = inserted.cache.entries.len;
-        self.head.live.cached_rows = inserted.cache.expiry.len;
-        let start = contents::start_of(self.head, self.block, inserted.row + 1);
-        contents::store_empty(self.head, self.block, inserted, start, round);
     }
 
     // "cache at" a round, until `expires`: requires that what it leaves is within the limits. Its time is that of one pass over entries, rows and contents.
@@ -199,7 +188,7 @@ impl<'a> Panel<'a> {
         ensures { Goes (cached_also (id_of id) cached.entry.content.now cached.entry.round.0 expires.0) self.old self.new }
     {
         self.set_content(id, &cached.content[0..0]);
-        self.insert_empty(id, cached.round, expires);
+        self.head = contents::insert_empty(self.head, self.block, id, cached.round, expires);
         self.set_content(id, cached.content);
     }
 }

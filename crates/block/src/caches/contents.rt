@@ -1,20 +1,26 @@
 // The contents of the message cache stand one after the other, in the order of the expiry rows; an expiry row has start and length of its content. What is changed here
 // in one step of several is a header and a block: between the steps they are no panel.
-ghost use Rattle.std.specs.Prelude.{◌≡◌, map, ◌+◌, ◌*◌, ◌≤◌, ◌<◌, length, drop};
+ghost use Rattle.std.specs.Prelude.{◌≡◌, [], map, ◌+◌, ◌*◌, ◌≤◌, ◌<◌, length, drop};
+ghost use Rattle.storage.specs.Rows.Ident.{id_of};
 ghost use Rattle.storage.specs.Rows.Part.{part, put};
+ghost use Rattle.time_cache.specs.TimeCache.{put as put_in};
 ghost use Rattle.time_cache.specs.Tables.{expiry_rows, row_at};
 ghost use Rattle.block.specs.Layout.{table};
-ghost use Rattle.block.specs.View.{limits_of};
+ghost use Rattle.block.specs.View.{state_of, limits_of};
 ghost use Rattle.block.specs.Fit.{Fit};
-ghost use Rattle.block.specs.Sound.{Sound};
+ghost use Rattle.block.specs.Sound.{Sound, held};
 ghost use Rattle.block.specs.Goes.{Goes};
+ghost use Rattle.block.specs.Caches.InBlock.{InOrder, AtMost};
 ghost use Rattle.block.specs.Contents.Starts.{len_of, first_start, shifted_row, Above};
-ghost use Rattle.block.specs.Contents.CacheSteps.{cached_rows, empty_in, Ahead, Shifts, Resized};
+ghost use Rattle.block.specs.Contents.CacheSteps.{cached_left, cached_also, message, cached_rows, empty_in, Ahead, Shifts, Resized};
 
 use crate::caches::cached;
+use crate::caches::cached::MessageCache;
 use crate::head;
 use crate::head::Head;
-use postcard::units::Round;
+use crate::time_caches::PanelCache;
+use postcard::units::{Millis, Round};
+use storage::rows::id::Id;
 use storage::rows::{bytes, table, word};
 use time_cache::cache::Inserted;
 
@@ -55,7 +61,7 @@ fn shift_rows(head: Head, block: &mut [u8], j: usize, up: usize, down: usize)
 
 // Moves the contents to the front of their table, and the starts with them. Its time is that of one pass over contents and rows, or constant where they
 // are at the front.
-pub fn close_contents(mut head: Head, block: &mut [u8]) -> Head
+fn close_contents(mut head: Head, block: &mut [u8]) -> Head
     requires { Ahead head block.old }
     ensures { Goes (λ s. s) head block.old result block.new }
 {
@@ -69,6 +75,18 @@ pub fn close_contents(mut head: Head, block: &mut [u8]) -> Head
     shift_rows(head, block, 0, 0, gap);
     head.live.contents = left;
     head
+}
+
+// `expire_until` of the message cache: the contents of the rows that go are the first of the contents.
+pub fn expire_contents(mut head: Head, block: &mut [u8], instant: Millis) -> Head
+    requires { Sound head block.old × InOrder (state_of head block.old).cache }
+    ensures { Goes (cached_left instant.0) head block.old result block.new }
+{
+    let cache = MessageCache::table(&head);
+    let expired = cache.expire_until(block, instant, &mut []);
+    head.live.cached = expired.cache.entries.len;
+    head.live.cached_rows = expired.cache.expiry.len;
+    close_contents(head, block)
 }
 
 // How long the content of a row is.
@@ -112,7 +130,7 @@ pub fn resize_row(mut head: Head, block: &mut [u8], place: usize, content: &[u8]
 }
 
 // Stores round, start and length of a content of no bytes in a new entry and its row.
-pub fn store_empty(head: Head, block: &mut [u8], inserted: Inserted, start: usize, round: Round)
+fn store_empty(head: Head, block: &mut [u8], inserted: Inserted, start: usize, round: Round)
     requires { Fit head block.old × (inserted.entry < head.live.cached) × (inserted.row < head.live.cached_rows) }
     ensures { block.new ≡ empty_in head inserted.entry inserted.row start round.0 block.old }
 {
@@ -121,4 +139,20 @@ pub fn store_empty(head: Head, block: &mut [u8], inserted: Inserted, start: usiz
     word::store_le(block, row + cached::LEN, 4, 0);
     let entry = head::cached_at(head.limits) + inserted.entry * cached::ENTRY_WIDTH;
     word::store_le(block, entry + cached::ROUND, 2, round.0 as u64);
+}
+
+// Puts a message in without its content: requires that no content is left of an entry that it overwrites.
+pub fn insert_empty(mut head: Head, block: &mut [u8], id: Id, round: Round, expires: Millis) -> Head
+    requires sound { Sound head block.old × InOrder (state_of head block.old).cache }
+    requires room { AtMost (state_of head block.old).limits.C (put_in (id_of id) (message [] round.0) expires.0 (state_of head block.old).cache) }
+    requires empty { held (put_in (id_of id) (message [] round.0) expires.0 (state_of head block.old).cache).entries ≡ held (state_of head block.old).cache.entries }
+    ensures { Goes (cached_also (id_of id) [] round.0 expires.0) head block.old result block.new }
+{
+    let cache = MessageCache::table(&head);
+    let inserted = cache.insert(block, id, expires);
+    head.live.cached = inserted.cache.entries.len;
+    head.live.cached_rows = inserted.cache.expiry.len;
+    let start = start_of(head, block, inserted.row + 1);
+    store_empty(head, block, inserted, start, round);
+    head
 }

@@ -1,8 +1,14 @@
 // `grafted`: an entry is a place, first, kept, and the grafted peers with their rounds; a row is a time and an identifier.
-ghost use Rattle.std.specs.Prelude.{◌≡◌, ◌+◌, ◌*◌, ◌<◌};
-ghost use Rattle.block.specs.Layout.{place};
-ghost use Rattle.block.specs.View.{limits_of};
-ghost use Rattle.block.specs.Fit.{Ceilings};
+ghost use Rattle.std.specs.Prelude.{◌≡◌, ◌+◌, ◌≤◌, length};
+ghost use Rattle.storage.specs.Rows.Ident.{id_of};
+ghost use Rattle.storage.specs.Rows.Part.{put};
+ghost use Rattle.time_cache.specs.TimeCache.{put as put_in};
+ghost use Rattle.block.specs.View.{state_of};
+ghost use Rattle.block.specs.Sound.{Sound};
+ghost use Rattle.block.specs.Goes.{Goes as GoesInBlock};
+ghost use Rattle.block.specs.Heads.{with_grafted_counts};
+ghost use Rattle.block.specs.Caches.InBlock.{InOrder, AtMost};
+ghost use Rattle.block.specs.Caches.GraftSteps.{first_bytes, kept_bytes, no_grafts, entered_state, EnteredAt};
 
 use crate::head::Head;
 use crate::hops::Hop;
@@ -12,7 +18,7 @@ use crate::{head, hops};
 use postcard::units::{Millis, Round};
 use storage::rows::id::Id;
 use storage::rows::word;
-use time_cache::cache::{Table, TimeBoundCache};
+use time_cache::cache::{Inserted, Table, TimeBoundCache};
 
 // How many bytes an entry has, and where its parts stand: a flag and behind it the peer and the round of `first`, a flag and behind it the peer of `kept`,
 // and the list of the grafted peers.
@@ -70,30 +76,66 @@ impl PanelCache for GraftedMessages {
     }
 }
 
-// Where the grafted message i stands.
-fn entry_at(head: &Head, i: usize) -> usize
-    requires { Ceilings (limits_of head.now.limits) × (i < 512) }
-    ensures { result ≡ place (limits_of head.now.limits) 7 + 119 * i }
+// Writes a `first` into the entry at `at`.
+fn store_first(block: &mut [u8], at: usize, first: FirstCopy)
+    requires { at + 119 ≤ length block.old }
+    ensures { block.new ≡ put (at + 2) (first_bytes first.sender first.round.0) block.old }
 {
-    head::grafted_at(head.limits) + ENTRY_WIDTH * i
+    block[at + FIRST] = 1;
+    word::store(block, at + FIRST_PEER, first.sender);
+    word::store_le(block, at + FIRST_ROUND, 2, first.round.0 as u64);
+}
+
+// Writes a `kept` into the entry at `at`.
+fn store_kept(block: &mut [u8], at: usize, peer: u64)
+    requires { at + 119 ≤ length block.old }
+    ensures { block.new ≡ put (at + 13) (kept_bytes peer) block.old }
+{
+    block[at + KEPT] = 1;
+    word::store(block, at + KEPT_PEER, peer);
+}
+
+// Puts an entry in for which no peer is grafted yet: the header's counts are for the caller to set.
+fn insert_entry(head: &Head, block: &mut [u8], id: Id, expires: Millis) -> Inserted
+    requires order { Sound head.now block.old × InOrder (state_of head.now block.old).grafted }
+    requires room { AtMost (state_of head.now block.old).limits.G (put_in (id_of id) no_grafts expires.0 (state_of head.now block.old).grafted) }
+    ensures goes { GoesInBlock (entered_state (id_of id) expires.0) head.now block.old (with_grafted_counts result.cache.entries.len result.cache.expiry.len head.now) block.new }
+    ensures entry { EnteredAt (id_of id) (state_of (with_grafted_counts result.cache.entries.len result.cache.expiry.len head.now) block.new) result.entry }
+{
+    let cache = GraftedMessages::table(head);
+    let inserted = cache.insert(block, id, expires);
+    let at = cache.entries.at + ENTRY_WIDTH * inserted.entry + FIRST;
+    word::store_le(block, at, PEERS + 1 - FIRST, 0);
+    inserted
 }
 
 impl<'a> View<'a> {
-    ghost use Rattle.std.specs.Prelude.{◌≡◌, ◌≤◌, ◌<◌, leb, length};
+    ghost use Rattle.std.specs.Prelude.{◌≡◌, ◌+◌, ◌*◌, ◌≤◌, ◌<◌, leb, length};
     ghost use Rattle.storage.specs.Lists.Base.{any};
     ghost use Rattle.storage.specs.Lists.Map.{keys, has};
     ghost use Rattle.storage.specs.Rows.Sorted.{FoundIs};
     ghost use Rattle.protocol.specs.Gossips.{same_as};
+    ghost use Rattle.block.specs.Layout.{place};
+    ghost use Rattle.block.specs.View.{limits_of};
     ghost use Rattle.block.specs.LinkSteps.{peer_at};
     ghost use Rattle.block.specs.Caches.GraftSteps.{grafts_at, GraftIs, Grafting, first_value};
     ghost use Rattle.block.specs.Views.{shown};
+
+    // Where a grafted message stands in the block.
+    fn graft_at(&self, entry: usize) -> usize
+        requires { entry < length (shown self.now).grafted.entries }
+        ensures at { result ≡ place (limits_of self.now.head.now.limits) 7 + 119 * entry }
+        ensures within { result + 119 ≤ length self.now.block.now }
+    {
+        head::grafted_at(self.head.limits) + ENTRY_WIDTH * entry
+    }
 
     // How many peers are grafted for a grafted message.
     pub fn graft_count(&self, entry: usize) -> usize
         requires { entry < length (shown self.now).grafted.entries }
         ensures { (result ≡ length (grafts_at (shown self.now) entry).peers) × (result ≤ 32) }
     {
-        hops::count(self.block, entry_at(self.head, entry) + PEERS)
+        hops::count(self.block, self.graft_at(entry) + PEERS)
     }
 
     // A peer that is grafted for a grafted message, by the number of its link, and its round.
@@ -101,7 +143,7 @@ impl<'a> View<'a> {
         requires { (entry < length (shown self.now).grafted.entries) × (number < length (grafts_at (shown self.now) entry).peers) }
         ensures { GraftIs (shown self.now) (grafts_at (shown self.now) entry).peers number result }
     {
-        hops::hop_at(self.block, entry_at(self.head, entry) + PEERS, number)
+        hops::hop_at(self.block, self.graft_at(entry) + PEERS, number)
     }
 
     // The first copy of a grafted message, if it came.
@@ -109,7 +151,7 @@ impl<'a> View<'a> {
         requires { entry < length (shown self.now).grafted.entries }
         ensures { first_value result ≡ (grafts_at (shown self.now) entry).first }
     {
-        let at = entry_at(self.head, entry);
+        let at = self.graft_at(entry);
         if self.block[at + FIRST] == 0 {
             return None;
         }
@@ -124,7 +166,7 @@ impl<'a> View<'a> {
         requires { entry < length (shown self.now).grafted.entries }
         ensures { result ≡ (grafts_at (shown self.now) entry).kept }
     {
-        let at = entry_at(self.head, entry);
+        let at = self.graft_at(entry);
         if self.block[at + KEPT] == 0 {
             return None;
         }
@@ -185,7 +227,6 @@ impl<'a> Panel<'a> {
     ghost use Rattle.storage.specs.Lists.Map.{keys, entry};
     ghost use Rattle.storage.specs.Rows.Ident.{id_of};
     ghost use Rattle.storage.specs.Rows.Sorted.{Between, Here};
-    ghost use Rattle.time_cache.specs.TimeCache.{put};
     ghost use Rattle.protocol.specs.State.{with_grafted};
     ghost use Rattle.block.specs.LinkSteps.{peer_at};
     ghost use Rattle.block.specs.Caches.InBlock.{InOrder, AtMost, grafted_left};
@@ -208,10 +249,8 @@ impl<'a> Panel<'a> {
         requires { InOrder (state self.old).grafted × (entry < length (state self.old).grafted.entries) }
         ensures { Goes (first_at entry sender round.0) self.old self.new }
     {
-        let at = entry_at(&self.head, entry);
-        self.block[at + FIRST] = 1;
-        word::store(self.block, at + FIRST_PEER, sender);
-        word::store_le(self.block, at + FIRST_ROUND, 2, round.0 as u64);
+        let at = self.view().graft_at(entry);
+        store_first(self.block, at, FirstCopy { sender, round });
     }
 
     // A peer is kept for a grafted message.
@@ -219,9 +258,8 @@ impl<'a> Panel<'a> {
         requires { InOrder (state self.old).grafted × (entry < length (state self.old).grafted.entries) }
         ensures { Goes (kept_at entry peer) self.old self.new }
     {
-        let at = entry_at(&self.head, entry);
-        self.block[at + KEPT] = 1;
-        word::store(self.block, at + KEPT_PEER, peer);
+        let at = self.view().graft_at(entry);
+        store_kept(self.block, at, peer);
     }
 
     // A peer more of a grafted message, before its peer j.
@@ -231,7 +269,7 @@ impl<'a> Panel<'a> {
         requires place { Between (keys (grafts_at (state self.old) i).peers) (peer_at (state self.old) hop.link) j }
         ensures { Goes (λ s. peers_to i (peers_with i (peer_at s hop.link) hop.round.0 s) s) self.old self.new }
     {
-        let at = entry_at(&self.head, i) + PEERS;
+        let at = self.view().graft_at(i) + PEERS;
         hops::insert_hop(self.block, at, j, hop);
     }
 
@@ -245,7 +283,7 @@ impl<'a> Panel<'a> {
         if self.view().graft(i, j).round.0 <= hop.round.0 {
             return;
         }
-        let at = entry_at(&self.head, i) + PEERS;
+        let at = self.view().graft_at(i) + PEERS;
         hops::set_round(self.block, at, j, hop.round);
     }
 
@@ -264,14 +302,11 @@ impl<'a> Panel<'a> {
     // A new entry, for which no peer is grafted yet: its number. Its time is that of an insert into a time cache.
     fn enter_graft(&mut self, id: Id, expires: Millis) -> usize
         requires order { InOrder (state self.old).grafted }
-        requires room { AtMost (state self.old).limits.G (put (id_of id) no_grafts expires.0 (state self.old).grafted) }
+        requires room { AtMost (state self.old).limits.G (put_in (id_of id) no_grafts expires.0 (state self.old).grafted) }
         ensures goes { Goes (entered_state (id_of id) expires.0) self.old self.new }
         ensures entry { EnteredAt (id_of id) (state self.new) result }
     {
-        let cache = GraftedMessages::table(&self.head);
-        let inserted = cache.insert(self.block, id, expires);
-        let at = entry_at(&self.head, inserted.entry) + FIRST;
-        word::store_le(self.block, at, PEERS + 1 - FIRST, 0);
+        let inserted = insert_entry(&self.head, self.block, id, expires);
         self.head.live.grafted = inserted.cache.entries.len;
         self.head.live.grafted_rows = inserted.cache.expiry.len;
         inserted.entry
@@ -281,11 +316,11 @@ impl<'a> Panel<'a> {
     fn graft_new(&mut self, id: Id, hop: Hop, expires: Millis)
         requires order { InOrder (state self.old).grafted }
         requires link { hop.link < length (state self.old).links }
-        requires room { AtMost (state self.old).limits.G (put (id_of id) no_grafts expires.0 (state self.old).grafted) }
-        ensures { Goes (λ s. with_grafted (put (id_of id) (record { first = no_grafts.first; kept = no_grafts.kept; peers = entry (peer_at s hop.link) hop.round.0 ∷ [] }) expires.0 s.grafted) s) self.old self.new }
+        requires room { AtMost (state self.old).limits.G (put_in (id_of id) no_grafts expires.0 (state self.old).grafted) }
+        ensures { Goes (λ s. with_grafted (put_in (id_of id) (record { first = no_grafts.first; kept = no_grafts.kept; peers = entry (peer_at s hop.link) hop.round.0 ∷ [] }) expires.0 s.grafted) s) self.old self.new }
     {
         let i = self.enter_graft(id, expires);
-        let at = entry_at(&self.head, i) + PEERS;
+        let at = self.view().graft_at(i) + PEERS;
         hops::push_hop(self.block, at, hop.link, hop.round);
     }
 

@@ -7,4 +7,4 @@ use Rattle.block.proofs.links.load_link.Goals as goal
 
 pub returns : goal.returns
 returns c =
-    sym (c.load.ensures (entry 0 eager)) ∙ ap (λ (l : List (Entry Mark)). get_or l c.args.i (entry 0 eager)) (links-lent c.args.head c.args.block.now c.rows.result c.rows.ensures)
+    sym (c.load.ensures (entry 0 eager)) ∙ ap (λ (l : List (Entry Mark)). get_or l c.args.i (entry 0 eager)) (links-lent c.args.head.now c.args.block.now c.rows.result c.rows.ensures)

@@ -4,12 +4,8 @@ use Rattle.block.specs.LinkSteps.{peer_at}
 use Rattle.block.proofs.NoteLaws.{count-dropped}
 use Rattle.block.specs.Views.{shown}
 use Rattle.steps.proofs.RecordLaws.{takes-open, takes-peer, takes-all}
-use Rattle.block.proofs.PanelLaws.{link-below}
 use Rattle.steps.proofs.note_dropped.takes_note.Goals as goal
 use Rattle.steps.proofs.note_dropped.takes_note.Goals.{then-scan-lt-MAX_DROPPED_PER_PEER, else-scan-lt-MAX_DROPPED_PER_PEER}
-
-pub scan_dropped-scan-requires : goal.scan_dropped-scan-requires
-scan_dropped-scan-requires c = let s = c.args.view.now in (s.sound, c.requires.0, link-below _ _ _ c.requires.1)
 
 pub returns-then-self-lt-MAX_DROPPED : goal.returns-then-self-lt-MAX_DROPPED
 returns-then-self-lt-MAX_DROPPED c =

@@ -4,7 +4,7 @@ use Rattle.storage.specs.Lists.Base.{concat_map}
 use Rattle.postcard.specs.Message.{Action, action_bytes}
 use Rattle.wire.specs.Encode.Intake.{after}
 use Rattle.block.specs.Views.{shown}
-use Rattle.steps.proofs.StandsLaws.{in_order}
+use Rattle.steps.proofs.AtRestLaws.{in_order}
 use Rattle.steps.proofs.ActionLaws.{evict-yes, evict-no, one-action, scheduled}
 use Rattle.steps.proofs.ForgottenLaws.{init-of}
 use Rattle.steps.proofs.on_evict_cache_timer.evict_actions.Goals as goal

@@ -1,4 +1,4 @@
--- `Panel::first_event` meets its contract: where the flag stands nothing is left to do, and else eviction and the flag are.
+-- `first_event` meets its contract: where the flag stands nothing is left to do, and else eviction and the flag are.
 use Rattle.std.proofs.Common.{true, refl, ap, sym, ◌∙◌, ◌≡◌, subst}
 use Rattle.protocol.specs.State.{with_init}
 use Rattle.decide.specs.StateAfter.{first_state}
@@ -12,12 +12,12 @@ done : (c : After-flag_init) → state c.flag_init.new.self ≡ first_state c.ar
 done c =
     let p = c.args.panel.now in
     let now = c.args.call.now.instant.0 in
-    c.flag_init.ensures.state ∙ ap (with_init true) c.on_evict_cache_timer.ensures.state ∙ sym (first-done now p.head p.block.now c.if-self.false)
+    c.flag_init.ensures.state ∙ ap (with_init true) c.on_evict_cache_timer.ensures.state ∙ sym (first-done now p.head p.block.now c.if-panel.false)
 
-pub returns-then-self-clause-goes : goal.returns-then-self-clause-goes
-returns-then-self-clause-goes c =
+pub returns-then-panel-clause-goes : goal.returns-then-panel-clause-goes
+returns-then-panel-clause-goes c =
     let p = c.args.panel.now in
-    record { state = sym (first-still c.args.call.now.instant.0 p.head p.block.now c.if-self.true); loan = refl }
+    record { state = sym (first-still c.args.call.now.instant.0 p.head p.block.now c.if-panel.true); loan = refl }
 
 pub returns-clause-goes : goal.returns-clause-goes
 returns-clause-goes c = record {

@@ -5,7 +5,7 @@ use Rattle.postcard.specs.Message.{Action, action_bytes}
 use Rattle.wire.specs.Encode.Intake.{after}
 use Rattle.wire.proofs.EncodeLaws.IntakeLaws.{after_nil}
 use Rattle.block.specs.Views.{shown}
-use Rattle.steps.proofs.StandsLaws.{in_order}
+use Rattle.steps.proofs.AtRestLaws.{in_order}
 use Rattle.steps.proofs.ActionLaws.{first-yes, first-no, no-action}
 use Rattle.steps.proofs.ForgottenLaws.{init-of}
 use Rattle.steps.proofs.on_evict_cache_timer.first_event_actions.Goals as goal

@@ -1,4 +1,4 @@
--- `Panel::on_evict_cache_timer` meets its contract: three steps, each of which leaves the other caches alone.
+-- `on_evict_cache_timer` meets its contract: three steps, each of which leaves the other caches alone.
 use Rattle.std.proofs.Common.{ap, ◌∙◌}
 use Rattle.protocol.specs.Ticks.{evict}
 use Rattle.block.specs.Caches.InBlock.{received_left, grafted_left}

@@ -22,19 +22,14 @@ all g c =
     told-all v.head.now v.block.now c.as_slice-row-items.result.now c.args.call.now.instant.0
     (ap (map (row_id v.head.now v.block.now)) c.as_slice-row-items.ensures.value ∙ c.forgotten_rows-rows.ensures.keys)
 
-pub forgotten_rows-rows-requires : goal.forgotten_rows-rows-requires
-forgotten_rows-rows-requires g c = (c.args.view.now.sound, c.requires.order)
-
 pub loop-row-init : goal.loop-row-init
 loop-row-init g c = refl
 
 pub row_id-id-requires : goal.row_id-id-requires
 row_id-id-requires g c =
-    let v = c.args.view.now in (
-      v.sound,
-      All-get_or (λ r. r < v.head.now.live.cached_rows) c.as_slice-row-items.result.now c.loop-row.row-index 0 c.loop-row-test.true
-          (subst (λ (l : List ℕ). All (λ r. r < v.head.now.live.cached_rows) l) (sym c.as_slice-row-items.ensures.value) c.forgotten_rows-rows.ensures.rows),
-    )
+    let v = c.args.view.now in
+    All-get_or (λ r. r < v.head.now.live.cached_rows) c.as_slice-row-items.result.now c.loop-row.row-index 0 c.loop-row-test.true
+    (subst (λ (l : List ℕ). All (λ r. r < v.head.now.live.cached_rows) l) (sym c.as_slice-row-items.ensures.value) c.forgotten_rows-rows.ensures.rows)
 
 pub loop-row-preserved : goal.loop-row-preserved
 loop-row-preserved g c =

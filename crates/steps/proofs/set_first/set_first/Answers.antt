@@ -1,18 +1,16 @@
 -- The entry that is found, if there is one.
-use Rattle.std.proofs.Common.{None, ◌≡◌, ◌∙◌, refl, arith}
+use Rattle.std.proofs.Common.{None, ◌≡◌, ◌∙◌, refl}
 use Rattle.std.proofs.Math.Path.{subst}
 use Rattle.storage.specs.Rows.Ident.{id_of}
 use Rattle.time_cache.specs.TimeCache.{get}
 use Rattle.protocol.specs.State.{State}
 use Rattle.decide.specs.Settled.{settled}
-use Rattle.block.proofs.CachesLaws.GraftedLaws.{count-grafted}
 use Rattle.block.specs.Panels.{state}
 use Rattle.steps.specs.Settled.Then.{no_grafts}
 use Rattle.steps.specs.Shared.{HeldAt}
-use Rattle.steps.proofs.AtRestLaws.{stands_of}
+use Rattle.steps.proofs.AtRestLaws.{grafted-order}
 use Rattle.block.proofs.PanelLaws.{same-state}
 use Rattle.steps.proofs.SetFirstLaws.{first-some, first-none}
-use Rattle.steps.proofs.StandsLaws.{grafted-order}
 use Rattle.steps.proofs.set_first.set_first.Goals as goal
 use Rattle.steps.proofs.set_first.set_first.Goals.{In-Some}
 
@@ -24,22 +22,18 @@ found c =
 
 pub set_first-requires : goal.set_first-requires
 set_first-requires c =
-    let p = c.args.panel.now in (
-      p.sound,
-      grafted-order p.head p.block.now (stands_of p.head p.block.now p.sound c.requires.0),
-      omega (arith, (found (goal.at.set_first-requires c).In-Some).below, count-grafted p.head p.block.now p.sound.fit),
-    )
+    (grafted-order (state c.args.panel.now) c.requires.0, (found (goal.at.set_first-requires c).In-Some).below)
 
 pub returns-in-Some : goal.returns-in-Some
 returns-in-Some c =
     let a = c.args in
     record {
-      state = c.set_first.ensures.state ∙ first-some a.call.now.instant.0 a.sender (id_of a.id) a.round.0 (state a.self.now) c.requires.1 c.in-Some.entry (found (goal.at.returns-in-Some c).In-Some);
-      loan = refl;
+      state = c.set_first.ensures.state ∙ first-some a.call.now.instant.0 a.sender (id_of a.id) a.round.0 (state a.panel.now) c.requires.1 c.in-Some.entry (found (goal.at.returns-in-Some c).In-Some);
+      loan = c.set_first.ensures.loan;
     }
 
 pub returns-in_default : goal.returns-in_default
 returns-in_default c =
     let a = c.args in
-    let none-there = subst (λ (s : State). get (id_of a.id) (settled a.call.now.instant.0 s).grafted ≡ None) (same-state a.self.now c.view.result c.view.ensures.head c.view.ensures.block) c.in_default.ensures in
-    record { state = first-none a.call.now.instant.0 a.sender (id_of a.id) a.round.0 (state a.self.now) c.requires.1 none-there; loan = refl }
+    let none-there = subst (λ (s : State). get (id_of a.id) (settled a.call.now.instant.0 s).grafted ≡ None) (same-state a.panel.now c.view.result c.view.ensures.head c.view.ensures.block) c.in_default.ensures in
+    record { state = first-none a.call.now.instant.0 a.sender (id_of a.id) a.round.0 (state a.panel.now) c.requires.1 none-there; loan = refl }

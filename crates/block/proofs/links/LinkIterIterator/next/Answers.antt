@@ -10,7 +10,7 @@ returns-then-link_count-self-clause-steps c = let h : links_left c.args.self.now
 
 pub returns-clause-steps : goal.returns-clause-steps
 unfolding links_left
-returns-clause-steps c = left-more (shown c.args.self.now.view).links c.args.self.now.next (omega (arith, c.link_count.ensures, c.if-link_count-self.false)) ∙ ap (λ (x : Link). x ∷ links_from (c.args.self.now.next + 1) (drop (c.args.self.now.next + 1) (shown c.args.self.now.view).links)) (sym c.link-link.ensures)
+returns-clause-steps c = left-more (shown c.args.self.now.view).links c.args.self.now.next (omega (arith, c.link_count.ensures, c.if-link_count-self.false)) ∙ ap (λ (x : NumberedLink). x ∷ links_from (c.args.self.now.next + 1) (drop (c.args.self.now.next + 1) (shown c.args.self.now.view).links)) (sym c.link-link.ensures)
 
 pub returns-clause-goes : goal.returns-clause-goes
 returns-clause-goes c = let h = returns-clause-steps c in search rules

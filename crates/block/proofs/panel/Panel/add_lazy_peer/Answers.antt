@@ -1,31 +1,38 @@
--- `links::mark_peer` meets its contract: a neighbour is marked, a stranger is not.
-use Rattle.std.proofs.Common.{◌∙◌, List, ℕ, arith}
-use Rattle.storage.specs.Rows.Sorted.{Here}
+-- A neighbour is marked, a stranger is not.
+use Rattle.std.proofs.Common.{◌≡◌, ℕ, refl, ap, ◌∙◌, subst, arith}
+use lib.ListN.{length-map}
 use Rattle.storage.specs.Lists.Map.{keys}
-use Rattle.block.specs.View.{state_of}
-use Rattle.block.specs.LinkSteps.{mark_value}
-use Rattle.block.proofs.LinkLaws.{count-peers, remarked-there, mark-stranger}
+use Rattle.storage.specs.Rows.Sorted.{Here, Between}
+use Rattle.protocol.specs.Links.{add_lazy, lazy}
+use Rattle.protocol.specs.State.{State}
+use Rattle.block.specs.Panels.{state}
+use Rattle.block.specs.Views.{shown}
+use Rattle.block.specs.LinkSteps.{linked}
+use Rattle.block.proofs.LinkLaws.{mark-stranger}
+use Rattle.block.proofs.PanelLaws.{same-state}
 use Rattle.block.proofs.panel.Panel.add_lazy_peer.Goals as goal
-use Rattle.block.proofs.panel.Panel.add_lazy_peer.Goals.{In-Ok, Start}
+use Rattle.block.proofs.panel.Panel.add_lazy_peer.Goals.{After-view, In-Ok}
 
--- the peers of the links, and where the search found the peer
-abbrev peers : Start → List ℕ
-peers s = keys (state_of s.args.head s.args.block.now).links
+same : (c : After-view) → shown c.view.result ≡ state c.args.self.now
+same c = same-state c.args.self.now c.view.result c.view.ensures.head c.view.ensures.block
 
-here : (c : In-Ok) → Here (peers (goal.at.In-Ok c).Start) c.args.peer c.in-Ok.i
-here c =
-    c.in-Ok.ensures
+-- where the link stands
+there : (c : In-Ok) → Here (keys (state c.args.self.now).links) c.args.peer c.in-Ok.link
+there c = subst (λ (s : State). Here (keys s.links) c.args.peer c.in-Ok.link) (same (goal.at.In-Ok c).After-view) c.in-Ok.ensures
 
-pub set_mark-requires : goal.set_mark-requires
-set_mark-requires c =
-    (c.requires.0, c.requires.1, omega (arith, (here (goal.at.set_mark-requires c).In-Ok).within, count-peers c.args.self.now.head c.args.self.now.block.now))
+pub add_lazy-requires : goal.add_lazy-requires
+add_lazy-requires c = (c.requires, omega (arith, (there (goal.at.add_lazy-requires c).In-Ok).within, length-map (state c.args.self.now).links (λ e. e.key)))
 
 pub returns-in-Ok : goal.returns-in-Ok
-returns-in-Ok c =
-    let g = c.set_mark.ensures in
-    let st = state_of c.args.self.now.head c.args.self.now.block.now in
-    record { state = g.state ∙ remarked-there st c.args.peer c.in-Ok.i (mark_value c.args.mark) (here (goal.at.returns-in-Ok c).In-Ok); sound = g.sound }
+returns-in-Ok c = record {
+  state = c.add_lazy.ensures.state ∙ ap (λ (k : ℕ). linked (add_lazy k) (state c.args.self.now)) (there (goal.at.returns-in-Ok c).In-Ok).same;
+  loan = c.add_lazy.ensures.loan;
+}
 
 pub returns-in_default : goal.returns-in_default
-returns-in_default c =
-    record { state = mark-stranger (state_of c.args.self.now.head c.args.self.now.block.now) c.args.peer _ (mark_value c.args.mark) c.in_default.ensures; sound = c.requires.0 }
+unfolding add_lazy
+returns-in_default c = record {
+  state = mark-stranger (state c.args.self.now) c.args.peer c.in_default.field-0 lazy
+      (subst (λ (s : State). Between (keys s.links) c.args.peer c.in_default.field-0) (same (goal.at.returns-in_default c).After-view) c.in_default.ensures);
+  loan = refl;
+}

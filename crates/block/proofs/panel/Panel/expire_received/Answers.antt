@@ -1,20 +1,31 @@
--- `received::expire_received` meets its contract: the two tables are left to `expire_until`.
-use Rattle.std.proofs.Common.{sym, subst}
+-- The two tables are left to `expire_until`.
+use Rattle.std.proofs.Common.{refl, sym, subst}
 use Rattle.time_cache.specs.Tables.{Lies, Sound}
 use Rattle.time_cache.specs.Steps.{Expires}
 use Rattle.time_cache.specs.declared.cache.TimeBoundCache.{TimeBoundCache}
+use Rattle.block.specs.Goes.{Goes}
+use Rattle.block.specs.Heads.{with_received_counts}
+use Rattle.block.specs.Caches.InBlock.{received_left}
 use Rattle.block.proofs.CachesLaws.ReceivedLaws.{received-lies, received-sound, received-expired}
 use Rattle.block.proofs.panel.Panel.expire_received.Goals as goal
+use Rattle.block.proofs.panel.Panel.expire_received.Goals.{After-expire_until-expired}
 
 pub expire_until-expired-requires-clause-lies : goal.expire_until-expired-requires-clause-lies
 expire_until-expired-requires-clause-lies c =
-    let h = c.args.self.now.head in
-    let xs = c.args.self.now.block.now in
-    subst (λ (t : TimeBoundCache). Lies t xs × Sound t xs) (sym c.table.ensures.at) (received-lies h xs c.requires.0.fit, received-sound h xs c.requires.0 c.requires.1)
+    let p = c.args.self.now in
+    subst (λ (t : TimeBoundCache). Lies t p.block.now × Sound t p.block.now) (sym c.table-cache.ensures.at)
+    (received-lies p.head p.block.now p.sound.fit, received-sound p.head p.block.now p.sound c.requires)
+
+goes : (c : After-expire_until-expired) → let p = c.args.self.now in let r = c.expire_until-expired.result in
+    Goes (received_left c.args.instant.0) p.head p.block.now (with_received_counts r.cache.entries.len r.cache.expiry.len p.head) c.expire_until-expired.new.block
+goes c =
+    let p = c.args.self.now in
+    let r = c.expire_until-expired in
+    received-expired p.head p.block.now r.new.block c.args.instant.0 r.result p.sound r.auto.block
+    (subst (λ (t : TimeBoundCache). Expires t c.args.instant.0 p.block.now r.result r.new.block) c.table-cache.ensures.at r.ensures.left)
+
+pub invariant_of-self : goal.invariant_of-self
+invariant_of-self c = record { sound = (goes (goal.at.invariant_of-self c).After-expire_until-expired).sound }
 
 pub returns : goal.returns
-returns c =
-    let h = c.args.self.now.head in
-    let xs = c.args.self.now.block.now in
-    received-expired h xs c.expire_until-expired.new.block c.args.instant.0 c.expire_until-expired.result c.requires.0 c.expire_until-expired.auto.block
-    (subst (λ (t : TimeBoundCache). Expires t c.args.instant.0 xs c.expire_until-expired.result c.expire_until-expired.new.block) c.table.ensures.at c.expire_until-expired.ensures.left)
+returns c = record { state = (goes (goal.at.returns c).After-expire_until-expired).state; loan = refl }

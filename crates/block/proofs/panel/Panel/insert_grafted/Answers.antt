@@ -1,55 +1,47 @@
--- `note::note_graft` meets its contract: by what the search found.
-use Rattle.std.proofs.Common.{◌∙◌, subst, List, ℕ, Result, arith}
+-- By what the search found.
+use Rattle.std.proofs.Common.{◌∙◌, subst, ℕ, Result, arith}
 use lib.ListN.{length-map}
 use Rattle.storage.specs.Lists.Map.{Entry, keys}
 use Rattle.storage.specs.Rows.Ident.{id_of}
-use Rattle.storage.specs.Rows.Sorted.{Here, FoundIs}
+use Rattle.storage.specs.Rows.Sorted.{Here, Between, FoundIs}
 use Rattle.time_cache.specs.TimeCache.{Timed}
 use Rattle.time_cache.proofs.Orders.{up_of}
 use Rattle.protocol.specs.State.{State, Grafts}
-use Rattle.block.specs.View.{state_of}
-use Rattle.block.proofs.CachesLaws.GraftedLaws.{count-grafted}
+use Rattle.block.specs.Panels.{state}
+use Rattle.block.proofs.PanelLaws.{same-state}
 use Rattle.block.proofs.GraftsLaws.NoteLaws.{noted_here, noted-new, new-most}
 use Rattle.block.proofs.panel.Panel.insert_grafted.Goals as goal
-use Rattle.block.proofs.panel.Panel.insert_grafted.Goals.{In-Ok, Start}
+use Rattle.block.proofs.panel.Panel.insert_grafted.Goals.{After-find, In-Ok, In-Err}
 
-abbrev state : Start → State
-state s = state_of s.args.head s.args.block.now
+-- the search, of the panel's state
+found : (c : After-find) → FoundIs (keys (state c.args.self.now).grafted.entries) (id_of c.args.id) c.find.result
+found c = subst (λ (s : State). FoundIs (keys s.grafted.entries) (id_of c.args.id) c.find.result) (same-state c.args.self.now c.view.result c.view.ensures.head c.view.ensures.block) c.find.ensures
 
-abbrev ids : Start → List ℕ
-ids s = keys (state s).grafted.entries
+here : (c : In-Ok) → Here (keys (state c.args.self.now).grafted.entries) (id_of c.args.id) c.in-Ok.i
+here c = subst (λ (x : Result ℕ ℕ). FoundIs (keys (state c.args.self.now).grafted.entries) (id_of c.args.id) x) c.in-Ok.is (found (goal.at.In-Ok c).After-find)
 
-abbrev id : Start → ℕ
-id s = id_of s.args.id
+between : (c : In-Err) → Between (keys (state c.args.self.now).grafted.entries) (id_of c.args.id) c.in-Err.field-0
+between c = subst (λ (x : Result ℕ ℕ). FoundIs (keys (state c.args.self.now).grafted.entries) (id_of c.args.id) x) c.in-Err.is (found (goal.at.In-Err c).After-find)
 
--- where the search found the identifier, or would have
-here : (c : In-Ok) → Here (ids (goal.at.In-Ok c).Start) (id (goal.at.In-Ok c).Start) c.in-Ok.i
-here c = subst (λ (x : Result ℕ ℕ). FoundIs (ids (goal.at.In-Ok c).Start) (id (goal.at.In-Ok c).Start) x) c.in-Ok.is c.find.ensures
+pub graft_again-requires-clause-there : goal.graft_again-requires-clause-there
+graft_again-requires-clause-there c =
+    (omega (arith, (here (goal.at.graft_again-requires-clause-there c).In-Ok).within, length-map (state c.args.self.now).grafted.entries (λ (e : Entry (Timed Grafts)). e.key)), c.requires.link)
 
-pub graft_at_entry-requires : goal.graft_at_entry-requires
-graft_at_entry-requires c =
-    let st = state (goal.at.graft_at_entry-requires c).Start in
-    (c.requires.0, omega (arith, (here (goal.at.graft_at_entry-requires c).In-Ok).within, length-map st.grafted.entries (λ (e : Entry (Timed Grafts)). e.key), count-grafted c.args.self.now.head c.args.self.now.block.now c.requires.0.sound.fit), c.requires.1)
-
-pub graft_anew-requires : goal.graft_anew-requires
-graft_anew-requires c =
-    let d = (goal.at.graft_anew-requires c).Start in
+pub graft_new-requires-clause-room : goal.graft_new-requires-clause-room
+graft_new-requires-clause-room c =
     let a = c.args in
-    let st = state d in
-    let b = subst (λ (x : Result ℕ ℕ). FoundIs (ids d) (id_of a.id) x) c.in-Err.is c.find.ensures in
-    (c.requires.0.sound, c.requires.0.order, c.requires.1, new-most st (id_of a.id) a.hop.link a.hop.round.0 a.expires.0 _ b a.head.limits.grafted (up_of (ids d) c.requires.0.order.up) c.requires.2)
+    let s = state a.self.now in
+    new-most s (id_of a.id) a.hop.link a.hop.round.0 a.expires.0 _ (between (goal.at.graft_new-requires-clause-room c).In-Err) s.limits.G (up_of (keys s.grafted.entries) c.requires.grafting.order.up) c.requires.room
 
 pub returns-in-Ok : goal.returns-in-Ok
 returns-in-Ok c =
-    let d = (goal.at.returns-in-Ok c).Start in
     let a = c.args in
-    let g = c.graft_at_entry.ensures in
-    record { state = g.state ∙ noted_here (state d) (id_of a.id) a.hop.link a.hop.round.0 a.expires.0 c.in-Ok.i (up_of (ids d) c.requires.0.order.up) (here (goal.at.returns-in-Ok c).In-Ok); sound = g.sound }
+    let s = state a.self.now in
+    let g = c.graft_again.ensures in
+    record { state = g.state ∙ noted_here s (id_of a.id) a.hop.link a.hop.round.0 a.expires.0 c.in-Ok.i (up_of (keys s.grafted.entries) c.requires.grafting.order.up) (here (goal.at.returns-in-Ok c).In-Ok); loan = g.loan }
 
 pub returns-in-Err : goal.returns-in-Err
 returns-in-Err c =
-    let d = (goal.at.returns-in-Err c).Start in
     let a = c.args in
-    let g = c.graft_anew.ensures in
-    let b = subst (λ (x : Result ℕ ℕ). FoundIs (ids d) (id_of a.id) x) c.in-Err.is c.find.ensures in
-    record { state = g.state ∙ noted-new (state d) (id_of a.id) a.hop.link a.hop.round.0 a.expires.0 _ b; sound = g.sound }
+    let g = c.graft_new.ensures in
+    record { state = g.state ∙ noted-new (state a.self.now) (id_of a.id) a.hop.link a.hop.round.0 a.expires.0 _ (between (goal.at.returns-in-Err c).In-Err); loan = g.loan }

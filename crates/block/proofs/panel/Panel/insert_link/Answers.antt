@@ -1,62 +1,34 @@
--- `insert_link`: the raised numbers, the move and the two stores are a link more.
-use Rattle.std.proofs.Common.{sym, ap, ◌∙◌, subst, List, ℕ, ◌+◌, ◌*◌, ◌≤◌, ◌<◌, length, set, arith}
-use Rattle.storage.specs.Rows.Part.{put}
-use Rattle.storage.specs.Rows.Digits.{le_bytes}
+-- The raised numbers and the row more are a link more.
+use Rattle.std.proofs.Common.{refl, ◌+◌, arith, lit<}
 use Rattle.storage.specs.Lists.Map.{insert}
-use Rattle.protocol.specs.Links.{Mark}
-use Rattle.block.specs.View.{mark_of}
+use Rattle.block.specs.View.{limits_of}
 use Rattle.block.specs.Goes.{Goes}
 use Rattle.block.specs.Heads.{with_link_count}
-use Rattle.block.specs.LinkSteps.{linked}
-use Rattle.block.proofs.LinkLaws.{count-peers}
+use Rattle.block.specs.LinkSteps.{linked, mark_value}
+use Rattle.block.proofs.Lent.{given_back, lent-room}
+use Rattle.block.proofs.LinkLaws.{count-peers, link-room}
 use Rattle.block.proofs.NeighboursLaws.LinkIn.{link-in}
 use Rattle.block.proofs.panel.Panel.insert_link.Goals as goal
-use Rattle.block.proofs.panel.Panel.insert_link.Goals.{Start}
-
--- the place is among the links or at their end, and the links are few
-room : (s : Start) → (s.args.i ≤ s.args.head.live.links) × (s.args.head.live.links < 32) × (2048 + 16 * s.args.head.live.links + 16 ≤ length s.args.block.now)
-room s = (omega (arith, s.requires.1.within, count-peers s.args.head s.args.block.now), omega (arith, s.requires.0.fit, s.requires.2), omega (arith, s.requires.0.fit, s.requires.2))
+use Rattle.block.proofs.panel.Panel.insert_link.Goals.{After-insert}
 
 pub raise_links-requires : goal.raise_links-requires
-raise_links-requires c = (c.requires.0, (room (goal.at.raise_links-requires c).Start).0)
+raise_links-requires c = let p = c.args.self.now in (p.sound, omega (arith, c.requires.place.within, count-peers p.head p.block.now))
 
-pub overflow_mul-at : goal.overflow_mul-at
-overflow_mul-at c = omega (arith, room (goal.at.overflow_mul-at c).Start)
+pub insert-requires : goal.insert-requires
+insert-requires c =
+    let p = c.args.self.now in
+    let long = lent-room (limits_of p.head.limits) 1 c.rows.result c.raise_links.new.block (lit< tt) c.rows.ensures c.raise_links.ensures.fit.long in
+    (omega (arith, c.requires.place.within, count-peers p.head p.block.now), omega (arith, link-room p.head p.block.now c.requires.room, long))
 
-pub overflow_add-at : goal.overflow_add-at
-overflow_add-at c = omega (arith, room (goal.at.overflow_add-at c).Start)
+goes : (c : After-insert) → let p = c.args.self.now in
+    Goes (linked (insert c.args.peer (mark_value c.args.mark))) p.head p.block.now (with_link_count (p.head.live.links + 1) p.head) (given_back c.rows.result c.raise_links.new.block c.insert.new.bytes)
+goes c =
+    let p = c.args.self.now in
+    link-in p.head p.block.now c.args.number c.args.peer (mark_value c.args.mark) c.requires.place (link-room p.head p.block.now c.requires.room)
+    c.raise_links.new.block c.raise_links.ensures c.rows.result c.rows.ensures c.insert.new.bytes c.insert.auto.bytes c.insert.ensures
 
-pub overflow_add-at-2 : goal.overflow_add-at-2
-overflow_add-at-2 c = omega (arith, room (goal.at.overflow_add-at-2 c).Start)
-
-pub overflow_sub-n : goal.overflow_sub-n
-overflow_sub-n c = omega (arith, room (goal.at.overflow_sub-n c).Start)
-
-pub move_up-requires : goal.move_up-requires
-move_up-requires c =
-    (omega arith, omega (arith, room (goal.at.move_up-requires c).Start, c.raise_links.auto.block))
-
-pub store-requires : goal.store-requires
-store-requires c =
-    omega (arith, room (goal.at.store-requires c).Start, c.raise_links.auto.block, c.move_up.auto.bytes)
-
-pub overflow_add-block : goal.overflow_add-block
-overflow_add-block c =
-    omega (arith, room (goal.at.overflow_add-block c).Start)
-
-pub bounds-block-at : goal.bounds-block-at
-bounds-block-at c =
-    omega (arith, room (goal.at.bounds-block-at c).Start, c.raise_links.auto.block, c.move_up.auto.bytes, c.store.auto.bytes)
+pub invariant_of-self : goal.invariant_of-self
+invariant_of-self c = record { sound = (goes (goal.at.invariant_of-self c).After-insert).sound }
 
 pub returns : goal.returns
-returns c =
-    let a = c.args in
-    let h = a.head in
-    let n = h.live.links in
-    let xs = a.block.now in
-    let at : ℕ = 2048 + 16 * a.i in
-    let ys = c.raise_links.new.block in
-    subst (λ (m : Mark). Goes (linked (insert a.peer m)) h xs (with_link_count (n + 1) h) (set c.store.new.bytes (at + 8) c.byte.result)) c.byte.ensures
-    (subst (λ (zs : List ℕ). Goes (linked (insert a.peer (mark_of c.byte.result))) h xs (with_link_count (n + 1) h) (set zs (at + 8) c.byte.result))
-    (sym (c.store.ensures ∙ ap (put at (le_bytes 8 a.peer)) c.move_up.ensures))
-    (link-in h xs a.i a.peer c.byte.result (omega (arith, c.well_formed)) c.requires.1 c.requires.2 ys c.raise_links.ensures))
+returns c = record { state = (goes (goal.at.returns c).After-insert).state; loan = refl }

@@ -1,21 +1,32 @@
--- `received::insert_received` meets its contract: the two tables are left to `insert`.
-use Rattle.std.proofs.Common.{sym, subst}
+-- The two tables are left to `insert`.
+use Rattle.std.proofs.Common.{refl, sym, subst}
 use Rattle.storage.specs.Rows.Ident.{id_of}
 use Rattle.time_cache.specs.Tables.{FitsOneMore, Sound}
 use Rattle.time_cache.specs.Steps.{Inserts}
 use Rattle.time_cache.specs.declared.cache.TimeBoundCache.{TimeBoundCache}
+use Rattle.block.specs.Goes.{Goes}
+use Rattle.block.specs.Heads.{with_received_counts}
+use Rattle.block.specs.Caches.InBlock.{received_also}
 use Rattle.block.proofs.CachesLaws.ReceivedLaws.{received-room, received-sound, received-inserted}
 use Rattle.block.proofs.panel.Panel.insert_received.Goals as goal
+use Rattle.block.proofs.panel.Panel.insert_received.Goals.{After-insert-inserted}
 
 pub insert-inserted-requires : goal.insert-inserted-requires
 insert-inserted-requires c =
-    let h = c.args.self.now.head in
-    let xs = c.args.self.now.block.now in
-    subst (λ (t : TimeBoundCache). FitsOneMore t xs × Sound t xs) (sym c.table.ensures.at) (received-room h xs c.requires.0.fit, received-sound h xs c.requires.0 c.requires.1)
+    let p = c.args.self.now in
+    subst (λ (t : TimeBoundCache). FitsOneMore t p.block.now × Sound t p.block.now) (sym c.table-cache.ensures.at)
+    (received-room p.head p.block.now p.sound.fit, received-sound p.head p.block.now p.sound c.requires.order)
+
+goes : (c : After-insert-inserted) → let p = c.args.self.now in let r = c.insert-inserted.result in
+    Goes (received_also (id_of c.args.id) c.args.expires.0) p.head p.block.now (with_received_counts r.cache.entries.len r.cache.expiry.len p.head) c.insert-inserted.new.block
+goes c =
+    let p = c.args.self.now in
+    let r = c.insert-inserted in
+    received-inserted p.head p.block.now r.new.block (id_of c.args.id) c.args.expires.0 r.result p.sound r.auto.block c.requires.room
+    (subst (λ (t : TimeBoundCache). Inserts t (id_of c.args.id) c.args.expires.0 p.block.now r.result r.new.block) c.table-cache.ensures.at r.ensures)
+
+pub invariant_of-self : goal.invariant_of-self
+invariant_of-self c = record { sound = (goes (goal.at.invariant_of-self c).After-insert-inserted).sound }
 
 pub returns : goal.returns
-returns c =
-    let h = c.args.self.now.head in
-    let xs = c.args.self.now.block.now in
-    received-inserted h xs c.insert-inserted.new.block (id_of c.args.id) c.args.expires.0 c.insert-inserted.result c.requires.0 c.insert-inserted.auto.block c.requires.2
-    (subst (λ (t : TimeBoundCache). Inserts t (id_of c.args.id) c.args.expires.0 xs c.insert-inserted.result c.insert-inserted.new.block) c.table.ensures.at c.insert-inserted.ensures)
+returns c = record { state = (goes (goal.at.returns c).After-insert-inserted).state; loan = refl }

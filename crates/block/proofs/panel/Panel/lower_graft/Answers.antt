@@ -1,49 +1,64 @@
--- `note::lower_graft` meets its contract: the known round stays where it is no higher, and a lower one is stored.
-use Rattle.std.proofs.Common.{sym, ap, ◌∙◌, subst, ℕ, ◌+◌, ◌*◌, ◌<◌, length, arith}
+-- The known round stays where it is no higher, and a lower one is stored.
+use Rattle.std.proofs.Common.{◌≡◌, refl, sym, ap, ◌∙◌, subst, ℕ, ◌+◌, ◌*◌, ◌<◌, List, length, get_or, arith}
 use lib.ListN.{length-map}
-use Rattle.storage.specs.Lists.Map.{Entry}
-use Rattle.storage.specs.Rows.Part.{put}
-use Rattle.storage.specs.Rows.Digits.{le_bytes}
-use Rattle.block.specs.View.{state_of}
+use Rattle.storage.specs.Lists.Map.{Entry, entry}
+use Rattle.storage.specs.Rows.Part.{part, put}
+use Rattle.protocol.specs.State.{State}
+use Rattle.block.specs.Layout.{place}
+use Rattle.block.specs.View.{limits_of}
 use Rattle.block.specs.Goes.{Goes}
+use Rattle.block.specs.HopSteps.{round_put}
 use Rattle.block.specs.LinkSteps.{peer_at}
 use Rattle.block.specs.Caches.GraftSteps.{grafts_at, peers_to, peers_with}
+use Rattle.block.specs.Panels.{state}
+use Rattle.block.specs.declared.head.Head.{Head}
+use Rattle.block.proofs.PanelLaws.{same-state}
 use Rattle.block.proofs.CachesLaws.GraftLaws.{graft-many, graft-few}
 use Rattle.block.proofs.GraftsLaws.NoteLaws.{lower-goes, same-goes}
 use Rattle.block.proofs.panel.Panel.lower_graft.Goals as goal
-use Rattle.block.proofs.panel.Panel.lower_graft.Goals.{Start}
+use Rattle.block.proofs.panel.Panel.lower_graft.Goals.{Start, After-graft, After-set_round}
 
 -- the peer is one of the peers, at most 32
-there : (s : Start) → s.args.j < length (grafts_at (state_of s.args.head s.args.block.now) s.args.i).peers
-there s = omega (arith, s.requires.3.within, length-map (grafts_at (state_of s.args.head s.args.block.now) s.args.i).peers (λ (e : Entry ℕ). e.key))
+there : (c : Start) → c.args.j < length (grafts_at (state c.args.self.now) c.args.i).peers
+there c = omega (arith, c.requires.place.within, length-map (grafts_at (state c.args.self.now) c.args.i).peers (λ (e : Entry ℕ). e.key))
 
-low : (s : Start) → s.args.j < 32
-low s = omega (arith, there s, graft-many s.args.head s.args.block.now s.requires.0.sound s.args.i s.requires.1, graft-few s.args.head s.args.block.now s.requires.0.sound s.args.i s.requires.1)
+known : (c : After-graft) → (get_or (grafts_at (state c.args.self.now) c.args.i).peers c.args.j (entry 0 0)).value ≡ c.graft.result.round.0
+known c =
+    let p = c.args.self.now in
+    subst (λ (s : State). (get_or (grafts_at s c.args.i).peers c.args.j (entry 0 0)).value ≡ c.graft.result.round.0) (same-state p c.view.result c.view.ensures.head c.view.ensures.block) (ap (λ (e : Entry ℕ). e.value) c.graft.ensures.same)
 
-pub returns-then-known-hop : goal.returns-then-known-hop
-returns-then-known-hop c =
+pub graft-requires : goal.graft-requires
+graft-requires c =
+    subst (λ (s : State). (c.args.i < length s.grafted.entries) × (c.args.j < length (grafts_at s c.args.i).peers)) (sym (same-state c.args.self.now c.view.result c.view.ensures.head c.view.ensures.block))
+    (c.requires.there.0, there (goal.at.graft-requires c).Start)
+
+pub returns-then-graft-hop : goal.returns-then-graft-hop
+returns-then-graft-hop c =
     let a = c.args in
-    let k = c.graft_at-known in
-    same-goes a.head a.block.now c.requires.0 a.i c.requires.1 a.hop.link a.hop.round.0 c.requires.2 (omega (arith, c.well_formed)) a.j c.requires.3 k.result.round.0 (ap (λ (e : Entry ℕ). e.value) k.ensures.same) c.if-known-hop.true
+    let p = a.self.now in
+    let g = same-goes p.head p.block.now p.sound c.requires.grafting a.i c.requires.there.0 a.hop.link a.hop.round.0 c.requires.there.1 (omega (arith, c.well_formed)) a.j c.requires.place c.graft.result.round.0 (known (goal.at.returns-then-graft-hop c).After-graft) c.if-graft-hop.true in
+    record { state = g.state; loan = refl }
 
-pub overflow_mul-own : goal.overflow_mul-own
-overflow_mul-own c =
-    omega (arith, low (goal.at.overflow_mul-own c).Start)
+pub set_round-requires : goal.set_round-requires
+set_round-requires c =
+    let a = c.args in
+    let p = a.self.now in
+    let many = graft-many p.head p.block.now p.sound a.i c.requires.there.0 in
+    (omega (arith, there (goal.at.set_round-requires c).Start, many, graft-few p.head p.block.now p.sound a.i c.requires.there.0), omega (arith, c.graft_at-at.ensures.within, ap (λ (bs : List ℕ). length bs) c.view-2.ensures.block))
 
-pub overflow_add-own-2 : goal.overflow_add-own-2
-overflow_add-own-2 c =
-    omega (arith, low (goal.at.overflow_add-own-2 c).Start, c.requires.0.sound.fit, c.requires.1, c.grafted_at.ensures)
+goes : (c : After-set_round) → let p = c.args.self.now in
+    Goes (λ s. peers_to c.args.i (peers_with c.args.i (peer_at s c.args.hop.link) c.args.hop.round.0 s) s) p.head p.block.now p.head c.set_round.new.block
+goes c =
+    let a = c.args in
+    let p = a.self.now in
+    let xs = p.block.now in
+    let e = ap (λ (n : ℕ). n + 22) (c.graft_at-at.ensures.at ∙ ap (λ (h : Head). place (limits_of h.limits) 7 + 119 * a.i) c.view-2.ensures.head) in
+    subst (Goes (λ s. peers_to a.i (peers_with a.i (peer_at s a.hop.link) a.hop.round.0 s) s) p.head xs p.head)
+    (sym (c.set_round.ensures ∙ (λ k. put (e k) (round_put a.j a.hop.round.0 (part (e k) 97 xs)) xs)))
+    (lower-goes p.head xs p.sound c.requires.grafting a.i c.requires.there.0 a.hop.link a.hop.round.0 c.requires.there.1 (omega (arith, c.well_formed)) a.j c.requires.place c.graft.result.round.0 (known (goal.at.After-set_round c).After-graft) c.if-graft-hop.false)
 
-pub store_le-requires : goal.store_le-requires
-store_le-requires c =
-    omega (arith, low (goal.at.store_le-requires c).Start, c.requires.0.sound.fit, c.requires.1, c.grafted_at.ensures)
+pub invariant_of-self : goal.invariant_of-self
+invariant_of-self c = record { sound = (goes (goal.at.invariant_of-self c).After-set_round).sound }
 
 pub returns : goal.returns
-returns c =
-    let a = c.args in
-    let xs = a.block.now in
-    let k = c.graft_at-known in
-    let e = ap (λ (n : ℕ). n + 119 * a.i + 22 + 33 + 2 * a.j) c.grafted_at.ensures in
-    subst (Goes (λ s. peers_to a.i (peers_with a.i (peer_at s a.hop.link) a.hop.round.0 s) s) a.head xs a.head)
-    (sym (c.store_le.ensures ∙ ap (λ (n : ℕ). put n (le_bytes 2 a.hop.round.0) xs) e))
-    (lower-goes a.head xs c.requires.0 a.i c.requires.1 a.hop.link a.hop.round.0 c.requires.2 (omega (arith, c.well_formed)) a.j c.requires.3 k.result.round.0 (ap (λ (y : Entry ℕ). y.value) k.ensures.same) (omega (arith, c.if-known-hop.false)))
+returns c = record { state = (goes (goal.at.returns c).After-set_round).state; loan = refl }

@@ -1,70 +1,59 @@
--- `cached::set_content` meets its contract: found, the row that the entry names has another content, and else there is nothing to change.
-use Rattle.std.proofs.Common.{◌≡◌, sym, ap, ◌∙◌, subst, ℕ, ◌+◌, ◌≤◌, ◌<◌, arith, length, Result}
+-- Found, the row that the entry names has another content, and else there is nothing to change.
+use Rattle.std.proofs.Common.{◌≡◌, refl, sym, ◌∙◌, subst, ℕ, ◌+◌, ◌≤◌, arith, length, Result}
 use Rattle.storage.specs.Lists.Map.{keys}
 use Rattle.storage.specs.Rows.Ident.{id_of}
-use Rattle.storage.specs.Rows.Sorted.{Here, FoundIs}
-use Rattle.time_cache.specs.Tables.{Lies, row_at, refs_at}
-use Rattle.time_cache.specs.Steps.{ref_at}
-use Rattle.time_cache.specs.declared.cache.TimeBoundCache.{TimeBoundCache}
-use Rattle.block.specs.View.{state_of}
-use Rattle.block.specs.TimeCaches.{cached_cache}
-use Rattle.block.proofs.CachesLaws.CachedLaws.{cached-lies}
+use Rattle.storage.specs.Rows.Sorted.{Here, Between, FoundIs}
+use Rattle.time_cache.specs.Tables.{row_at}
+use Rattle.protocol.specs.State.{State}
+use Rattle.block.specs.Goes.{Goes}
+use Rattle.block.specs.Caches.CachedReads.{row_of}
+use Rattle.block.specs.Panels.{state}
 use Rattle.block.specs.Contents.Starts.{len_of}
-use Rattle.block.specs.Contents.CacheSteps.{cached_rows, Resized}
-use Rattle.block.proofs.ContentsLaws.Setting.{entry-low, row_low, set_room, set-goes, refill-none}
+use Rattle.block.specs.Contents.CacheSteps.{refilled, cached_rows, Resized}
+use Rattle.block.proofs.PanelLaws.{same-state}
+use Rattle.block.proofs.ContentsLaws.Setting.{row_low, set_room, set-goes, refill-none}
 use Rattle.block.proofs.panel.Panel.set_content.Goals as goal
-use Rattle.block.proofs.panel.Panel.set_content.Goals.{After-place-place, In-Ok, Start}
+use Rattle.block.proofs.panel.Panel.set_content.Goals.{In-Ok, After-cached_row-row, After-resize_row-self}
 
--- where the search found the identifier
-module _ (c : In-Ok) where
-  abbrev s : Start
-  s = (goal.at.In-Ok c).Start
+-- where the search found the identifier, and the row that its entry has
+here : (c : In-Ok) → Here (keys (state c.args.self.now).cache.entries) (id_of c.args.id) c.in-Ok.entry
+here c =
+    let p = c.args.self.now in
+    let f = subst (λ (s : State). FoundIs (keys s.cache.entries) (id_of c.args.id) c.find.result) (same-state p c.view.result c.view.ensures.head c.view.ensures.block) c.find.ensures in
+    subst (λ (x : Result ℕ ℕ). FoundIs (keys (state p).cache.entries) (id_of c.args.id) x) c.in-Ok.is f
 
-  here : Here (keys (state_of s.args.head s.args.block.now).cache.entries) (id_of s.args.id) c.in-Ok.i
-  here = subst (λ (x : Result ℕ ℕ). FoundIs (keys (state_of s.args.head s.args.block.now).cache.entries) (id_of s.args.id) x) c.in-Ok.is c.find.ensures
+row : (c : After-cached_row-row) → c.cached_row-row.result ≡ row_of c.args.self.now.head c.args.self.now.block.now c.in-Ok.entry
+row c = c.cached_row-row.ensures.at ∙ (λ k. row_of (c.view-in-Ok.ensures.head k) (c.view-in-Ok.ensures.block k) c.in-Ok.entry)
 
--- the row that it names
-module _ (c : After-place-place) where
-  abbrev f : In-Ok
-  f = (goal.at.After-place-place c).In-Ok
-
-  abbrev t : Start
-  t = s f
-
-  row : c.place-place.result ≡ (ref_at (refs_at (cached_cache t.args.head) t.args.block.now) f.in-Ok.i).place
-  row = c.place-place.ensures ∙ ap (λ (z : TimeBoundCache). (ref_at (refs_at z t.args.block.now) f.in-Ok.i).place) c.table.ensures.at
-
-pub place-place-requires : goal.place-place-requires
-place-place-requires c =
-    let t = s (goal.at.place-place-requires c).In-Ok in
-    let a = t.args in
-    subst (λ (z : TimeBoundCache). Lies z a.block.now × (c.in-Ok.i < z.entries.len)) (sym c.table.ensures.at)
-    (cached-lies a.head a.block.now t.requires.0.fit, entry-low a.head a.block.now a.content.now (id_of a.id) c.in-Ok.i t.requires.0 t.requires.1 (here (goal.at.place-place-requires c).In-Ok) t.requires.2)
-
-pub resize_row-requires : goal.resize_row-requires
-resize_row-requires c =
-    let d = (goal.at.resize_row-requires c).After-place-place in
-    let g = f d in
-    let q = t d in
-    let a = q.args in
-    let i = g.in-Ok.i in (
-      q.requires.0,
-      omega (arith, row d, row_low a.head a.block.now a.content.now (id_of a.id) i q.requires.0 q.requires.1 (here g) q.requires.2),
-      subst (λ (p : ℕ). a.head.live.contents + length a.content.now ≤ a.head.limits.content + len_of (row_at (cached_rows a.head a.block.now) p)) (sym (row d))
-          (set_room a.head a.block.now a.content.now (id_of a.id) i q.requires.0 q.requires.1 (here g) q.requires.2),
+pub resize_row-self-requires : goal.resize_row-self-requires
+resize_row-self-requires c =
+    let a = c.args in
+    let p = a.self.now in
+    let e = row (goal.at.resize_row-self-requires c).After-cached_row-row in
+    let at = here (goal.at.resize_row-self-requires c).In-Ok in (
+      p.sound,
+      omega (arith, e, row_low p.head p.block.now a.content.now (id_of a.id) c.in-Ok.entry p.sound c.requires.order at c.requires.room),
+      subst (λ (n : ℕ). p.head.live.contents + length a.content.now ≤ p.head.limits.content + len_of (row_at (cached_rows p.head p.block.now) n)) (sym e)
+          (set_room p.head p.block.now a.content.now (id_of a.id) c.in-Ok.entry p.sound c.requires.order at c.requires.room),
     )
 
-pub returns-in-Ok : goal.returns-in-Ok
-returns-in-Ok c =
-    let d = (goal.at.returns-in-Ok c).After-place-place in
-    let g = f d in
-    let q = t d in
-    let a = q.args in
-    set-goes a.head a.block.now a.content.now (id_of a.id) g.in-Ok.i q.requires.0 q.requires.1 (here g) q.requires.2 c.resize_row.result c.resize_row.new.block
-    (subst (λ (p : ℕ). Resized a.head p a.content.now a.block.now c.resize_row.result c.resize_row.new.block) (row d) c.resize_row.ensures)
-
-pub returns-in-Err : goal.returns-in-Err
-returns-in-Err c =
+goes : (c : After-resize_row-self) → let p = c.args.self.now in Goes (refilled (id_of c.args.id) c.args.content.now) p.head p.block.now c.resize_row-self.result c.resize_row-self.new.block
+goes c =
     let a = c.args in
-    refill-none a.head a.block.now a.content.now (id_of a.id) _ c.requires.0
-    (subst (λ (x : Result ℕ ℕ). FoundIs (keys (state_of a.head a.block.now).cache.entries) (id_of a.id) x) c.in-Err.is c.find.ensures)
+    let p = a.self.now in
+    let r = c.resize_row-self in
+    set-goes p.head p.block.now a.content.now (id_of a.id) c.in-Ok.entry p.sound c.requires.order (here (goal.at.After-resize_row-self c).In-Ok) c.requires.room r.result r.new.block
+    (subst (λ (n : ℕ). Resized p.head n a.content.now p.block.now r.result r.new.block) (row (goal.at.After-resize_row-self c).After-cached_row-row) r.ensures)
+
+pub invariant_of-self : goal.invariant_of-self
+invariant_of-self c = record { sound = (goes c).sound }
+
+pub returns-in-Ok : goal.returns-in-Ok
+returns-in-Ok c = record { state = (goes (goal.at.returns-in-Ok c).After-resize_row-self).state; loan = refl }
+
+pub returns-in_default : goal.returns-in_default
+returns-in_default c =
+    let a = c.args in
+    let p = a.self.now in
+    let b = subst (λ (s : State). Between (keys s.cache.entries) (id_of a.id) c.in_default.field-0) (same-state p c.view.result c.view.ensures.head c.view.ensures.block) c.in_default.ensures in
+    record { state = (refill-none p.head p.block.now a.content.now (id_of a.id) _ p.sound b).state; loan = refl }

@@ -1,17 +1,23 @@
--- `grafted::set_first` meets its contract: flag, peer and round are the `first` of the view.
-use Rattle.std.proofs.Common.{sym, ap, ◌∙◌, subst, ℕ, ◌+◌, ◌*◌, arith}
-use Rattle.storage.specs.Rows.Part.{put}
-use Rattle.storage.specs.Rows.Digits.{le_bytes}
+-- The bytes stored are the `first` of the entry.
+use Rattle.std.proofs.Common.{refl, sym, ap, ◌∙◌, subst, ◌+◌, ◌*◌, arith}
+use Rattle.block.specs.Layout.{place}
+use Rattle.block.specs.View.{limits_of}
 use Rattle.block.specs.Goes.{Goes}
 use Rattle.block.specs.Caches.GraftSteps.{first_at}
+use Rattle.block.specs.declared.head.Head.{Head}
 use Rattle.block.proofs.CachesLaws.GraftWrites.{first_goes}
 use Rattle.block.proofs.panel.Panel.set_first.Goals as goal
+use Rattle.block.proofs.panel.Panel.set_first.Goals.{After-store_first}
+
+goes : (c : After-store_first) → let p = c.args.self.now in Goes (first_at c.args.entry c.args.sender c.args.round.0) p.head p.block.now p.head c.store_first.new.block
+goes c =
+    let p = c.args.self.now in
+    let at = c.graft_at-at.ensures.at ∙ ap (λ (h : Head). place (limits_of h.limits) 7 + 119 * c.args.entry) c.view.ensures.head in
+    subst (Goes (first_at c.args.entry c.args.sender c.args.round.0) p.head p.block.now p.head) (sym c.store_first.ensures)
+    (first_goes p.head p.block.now p.sound c.requires.0 c.args.entry c.requires.1 c.graft_at-at.result c.args.sender at (omega (arith, c.well_formed)) c.args.round.0 (omega (arith, c.well_formed)))
+
+pub invariant_of-self : goal.invariant_of-self
+invariant_of-self c = record { sound = (goes (goal.at.invariant_of-self c).After-store_first).sound }
 
 pub returns : goal.returns
-returns c =
-    let a = c.args in
-    let g = c.grafted_at in
-    let at = g.result + 119 * a.i in
-    subst (Goes (first_at a.i a.peer a.round.0) a.head a.block.now a.head)
-    (sym (c.store_le.ensures ∙ ap (put (at + 11) (le_bytes 2 a.round.0)) c.store.ensures))
-    (first_goes a.head a.block.now c.requires.0 c.requires.1 a.i c.requires.2 at a.peer (ap (λ (b : ℕ). b + 119 * a.i) g.ensures) (omega (arith, c.well_formed)) a.round.0 (omega (arith, c.well_formed)))
+returns c = record { state = (goes (goal.at.returns c).After-store_first).state; loan = refl }

@@ -1,4 +1,4 @@
--- `is_any_due`: of the table that the message cache stands in.
+-- Of the tables that the message cache stands in.
 use Rattle.std.proofs.Common.{◌≡◌, not, ap, ◌∙◌, List, subst}
 use Rattle.storage.specs.Lists.Base.{is_empty}
 use Rattle.time_cache.specs.TimeCache.{Expiry, due}
@@ -9,6 +9,6 @@ use Rattle.block.proofs.panel.View.is_any_due.Goals as goal
 
 pub returns : goal.returns
 returns c =
-    let a = c.args in
-    subst (λ (t : TimeBoundCache). c.is_due.result ≡ not (is_empty (due a.instant.0 (cache_at t a.block.now).expiry))) c.table.ensures.at c.is_due.ensures
-    ∙ ap (λ (es : List Expiry). not (is_empty (due a.instant.0 es))) (cached-expiry a.head a.block.now c.requires.0.fit)
+    let v = c.args.self.now in
+    subst (λ (t : TimeBoundCache). c.is_due.result ≡ not (is_empty (due c.args.instant.0 (cache_at t v.block.now).expiry))) c.table.ensures.at c.is_due.ensures
+    ∙ ap (λ (es : List Expiry). not (is_empty (due c.args.instant.0 es))) (cached-expiry v.head.now v.block.now v.sound.fit)

@@ -1,8 +1,14 @@
-use Rattle.block.proofs.PanelLaws.{link-below}
+-- The row read is the link of the state.
+use Rattle.std.proofs.Common.{ap, ◌∙◌, arith}
+use Rattle.storage.specs.Lists.Map.{Entry}
+use Rattle.protocol.specs.Links.{Mark, is_eager}
+use Rattle.block.proofs.LinkLaws.{count-links}
 use Rattle.block.proofs.panel.View.link.Goals as goal
 
-pub peer_at-requires : goal.peer_at-requires
-peer_at-requires c = (c.args.self.now.sound.fit, link-below _ _ _ c.requires)
+pub load_link-peer-requires : goal.load_link-peer-requires
+load_link-peer-requires c = let v = c.args.self.now in (v.sound.fit, omega (arith, c.requires, count-links v.head.now v.block.now))
 
-pub eager_at-requires : goal.eager_at-requires
-eager_at-requires c = (c.args.self.now.sound.fit, link-below _ _ _ c.requires)
+pub returns : goal.returns
+returns c =
+    let read = c.load_link-peer.ensures in
+    λ j. record { number = c.args.number; peer = (read j).key; eager = (c.is_eager-eager.ensures ∙ ap (λ (e : Entry Mark). is_eager e.value) read) j }

@@ -1,27 +1,26 @@
+-- The round of the entry that the search found.
 use Rattle.std.proofs.Common.{arith, ℕ, subst, Result}
 use lib.ListN.{length-map}
 use Rattle.storage.specs.Lists.Map.{keys}
 use Rattle.storage.specs.Rows.Ident.{id_of}
 use Rattle.storage.specs.Rows.Sorted.{FoundIs, Here}
-use Rattle.block.proofs.CachesLaws.CachedLaws.{count-cached}
 use Rattle.block.specs.Views.{shown}
 use Rattle.block.proofs.LookupLaws.{round-here, round-between}
 use Rattle.block.proofs.panel.View.round_of_cached.Goals as goal
 use Rattle.block.proofs.panel.View.round_of_cached.Goals.{In-Ok}
 
-here : (c : In-Ok) → Here (keys (shown c.args.view.now).cache.entries) (id_of c.args.id) c.in-Ok.i
-here c = subst (λ (x : Result ℕ ℕ). FoundIs (keys (shown c.args.view.now).cache.entries) (id_of c.args.id) x) c.in-Ok.is c.find.ensures
+here : (c : In-Ok) → Here (keys (shown c.args.self.now).cache.entries) (id_of c.args.id) c.in-Ok.entry
+here c = subst (λ (x : Result ℕ ℕ). FoundIs (keys (shown c.args.self.now).cache.entries) (id_of c.args.id) x) c.in-Ok.is c.find.ensures
 
 pub cached_round-requires : goal.cached_round-requires
 cached_round-requires c =
-    let v = c.args.view.now in
-    (v.sound, omega (arith, (here (goal.at.cached_round-requires c).In-Ok).within, length-map (shown v).cache.entries (λ e. e.key), count-cached v.head v.block.now v.sound.fit))
+    omega (arith, (here (goal.at.cached_round-requires c).In-Ok).within, length-map (shown c.args.self.now).cache.entries (λ e. e.key))
 
 pub returns-in-Ok : goal.returns-in-Ok
 returns-in-Ok c =
-    round-here (id_of c.args.id) (shown c.args.view.now) c.requires c.in-Ok.i c.cached_round.result.0 c.cached_round.ensures (here (goal.at.returns-in-Ok c).In-Ok)
+    round-here (id_of c.args.id) (shown c.args.self.now) c.requires c.in-Ok.entry c.cached_round.result.0 c.cached_round.ensures (here (goal.at.returns-in-Ok c).In-Ok)
 
 pub returns-in-Err : goal.returns-in-Err
 returns-in-Err c =
-    round-between (id_of c.args.id) (shown c.args.view.now) _
-    (subst (λ (x : Result ℕ ℕ). FoundIs (keys (shown c.args.view.now).cache.entries) (id_of c.args.id) x) c.in-Err.is c.find.ensures)
+    round-between (id_of c.args.id) (shown c.args.self.now) _
+    (subst (λ (x : Result ℕ ℕ). FoundIs (keys (shown c.args.self.now).cache.entries) (id_of c.args.id) x) c.in-Err.is c.find.ensures)

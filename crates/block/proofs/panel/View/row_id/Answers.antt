@@ -1,4 +1,4 @@
--- `row_id`: the key of the row, in the tables that the message cache stands in.
+-- The key of the row, in the tables that the message cache stands in.
 use Rattle.std.proofs.Common.{◌≡◌, ◌<◌, sym, subst}
 use Rattle.storage.specs.Rows.Ident.{id_of}
 use Rattle.time_cache.specs.Tables.{Lies}
@@ -9,8 +9,8 @@ use Rattle.block.proofs.panel.View.row_id.Goals as goal
 
 pub key_at-requires : goal.key_at-requires
 key_at-requires c =
-    let a = c.args in
-    subst (λ (t : TimeBoundCache). Lies t a.block.now × (a.row < t.expiry.len)) (sym c.table.ensures.at) (cached-lies a.head a.block.now c.requires.0.fit, c.requires.1)
+    let v = c.args.self.now in
+    subst (λ (t : TimeBoundCache). Lies t v.block.now × (c.args.row < t.expiry.len)) (sym c.table.ensures.at) (cached-lies v.head.now v.block.now v.sound.fit, c.requires)
 
 pub returns : goal.returns
 returns c = subst (λ (t : TimeBoundCache). id_of c.key_at.result ≡ key_of_row t c.args.self.now.block.now c.args.row) c.table.ensures.at c.key_at.ensures

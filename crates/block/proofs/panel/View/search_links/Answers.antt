@@ -1,24 +1,44 @@
--- `links::find_link` meets its contract: the links before i are below the peer.
-use Rattle.std.proofs.Common.{sym, ◌∙◌, arith}
-use Rattle.block.proofs.LinkLaws.{count-peers}
-use Rattle.block.proofs.Scans.{scan-above, scan-end}
-use Rattle.time_cache.proofs.Orders.{up_of}
+-- The search goes on until a peer that is not below the one sought.
+use Rattle.std.proofs.Common.{◌≡◌, ℕ, List, length, get_or, sym, ap, ◌∙◌, arith}
+use lib.ListN.{length-map}
 use Rattle.storage.specs.Lists.Map.{keys}
-use Rattle.block.specs.View.{state_of}
+use Rattle.time_cache.proofs.Orders.{up_of}
+use Rattle.block.specs.Views.{shown}
+use Rattle.block.specs.declared.links.NumberedLink.{NumberedLink}
+use Rattle.block.proofs.PanelLaws.{link-key}
+use Rattle.block.proofs.Scans.{scan-more, scan-above, scan-end}
 use Rattle.block.proofs.panel.View.search_links.Goals as goal
+use Rattle.block.proofs.panel.View.search_links.Goals.{Start, After-link-other}
+
+-- the peers of the links, as many as the links
+abbrev peers : Start → List ℕ
+peers s = keys (shown s.args.self.now).links
+
+as_many : (s : Start) → length (peers s) ≡ length (shown s.args.self.now).links
+as_many s = length-map (shown s.args.self.now).links (λ e. e.key)
+
+-- the peer read
+read : (c : After-link-other) → c.link-other.result.peer ≡ get_or (peers (goal.at.After-link-other c).Start) c.loop-i.i 0
+read c = ap (λ (l : NumberedLink). l.peer) c.link-other.ensures ∙ sym (link-key (shown c.args.self.now) c.loop-i.i)
+
+pub loop-i-preserved : goal.loop-i-preserved
+loop-i-preserved c =
+    let s = goal.at.loop-i-preserved c in
+    scan-more (peers s.Start) c.args.peer c.loop-i.i c.link-other.result.peer c.loop-i.invariant (read s.After-link-other) (omega (arith, c.if-other-peer.false, c.if-peer-other.false))
 
 pub returns-then-other-peer : goal.returns-then-other-peer
 returns-then-other-peer c =
-    record { within = omega (arith, count-peers c.args.self.now.head.now c.args.self.now.block.now, c.loop-i-test.true); same = sym c.peer_at-other.ensures ∙ c.if-other-peer.true }
+    let s = goal.at.returns-then-other-peer c in
+    record { within = omega (arith, as_many s.Start, c.loop-i-test.true, c.link_count-i-end.ensures); same = sym (read s.After-link-other) ∙ c.if-other-peer.true }
 
 pub returns-then-peer-other : goal.returns-then-peer-other
 returns-then-peer-other c =
-    let l = c.loop-i in
-    let ks = keys (state_of c.args.self.now.head.now c.args.self.now.block.now).links in
-    scan-above ks c.args.peer l.i c.peer_at-other.result (up_of ks c.requires.1) (omega (arith, count-peers c.args.self.now.head.now c.args.self.now.block.now, c.loop-i-test.true)) l.invariant c.peer_at-other.ensures c.if-peer-other.true
+    let s = goal.at.returns-then-peer-other c in
+    scan-above (peers s.Start) c.args.peer c.loop-i.i c.link-other.result.peer (up_of (peers s.Start) c.requires)
+    (omega (arith, as_many s.Start, c.loop-i-test.true, c.link_count-i-end.ensures)) c.loop-i.invariant (read s.After-link-other) c.if-peer-other.true
 
 pub returns : goal.returns
 returns c =
-    let l = c.loop-i in
-    let ks = keys (state_of c.args.self.now.head.now c.args.self.now.block.now).links in
-    scan-end ks c.args.peer c.args.self.now.head.now.live.links (omega (arith, count-peers c.args.self.now.head.now c.args.self.now.block.now)) (omega (arith, count-peers c.args.self.now.head.now c.args.self.now.block.now)) (λ j below. l.invariant j (omega (arith, below, c.loop-i-test.false)))
+    let s = goal.at.returns c in
+    scan-end (peers s.Start) c.args.peer c.link_count.result (omega (arith, as_many s.Start, c.link_count.ensures)) (omega (arith, as_many s.Start, c.link_count.ensures))
+    (λ j below. c.loop-i.invariant j (omega (arith, below, c.loop-i-test.false)))

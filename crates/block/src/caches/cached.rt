@@ -82,7 +82,7 @@ impl<'a> View<'a> {
     }
 
     // The row that a cached message has.
-    fn cached_row(&self, entry: usize) -> usize
+    pub fn cached_row(&self, entry: usize) -> usize
         requires { entry < length (shown self.now).cache.entries }
         ensures at { result ≡ row_of self.now.head.now self.now.block.now entry }
         ensures within { result < self.now.head.now.live.cached_rows }

@@ -1,27 +1,27 @@
 -- Contents of cached messages: that they adjoin, told row by row, and that the lengths of the rows that entries name are those of the messages' contents.
 -- Assumes nothing.
-use Rattle.std.proofs.Common.{◌≡◌, refl, sym, ap, ◌∙◌, subst, Bool, true, false, ◌&&◌, List, [], ◌∷◌, ◌++◌, map, ℕ, zero, suc, ◌+◌, ◌*◌, ◌≤◌, ◌<◌, le_of_suc-le-suc, not-suc-le-zero, add-one, arith, eq-eqb, ne_eqb, ltb-true, eqb, ltb, lit<, length, take, drop, get_or, drop_of_length-le, drop-cons, drop-drop, take-suc}
+use Rattle.std.proofs.Common.{◌≡◌, refl, sym, ap, ◌∙◌, subst, Bool, true, false, ◌&&◌, List, [], ◌∷◌, ◌++◌, map, ℕ, zero, suc, ◌+◌, ◌*◌, ◌≤◌, ◌<◌, add-one, arith, eq-eqb, ne_eqb, eqb, lit<, length, take, drop, get_or, drop_of_length-le, drop-cons, take-suc}
 use Rattle.storage.specs.Lists.Base.{sum}
-use Rattle.storage.proofs.ListsLaws.MapLaws.{all_head, all_tail}
 use Rattle.storage.specs.Rows.Part.{part}
 use Rattle.storage.specs.Rows.Digits.{le_nat}
 use Rattle.storage.specs.Rows.Rows.{rows}
-use Rattle.storage.proofs.RowsLaws.Parts.{part-part, length_part}
-use Rattle.storage.proofs.RowsLaws.Rows.{length-rows, get_d_rows}
+use Rattle.storage.proofs.RowsLaws.Parts.{part-part}
+use Rattle.storage.proofs.RowsLaws.Rows.{get_d_rows}
 use Rattle.storage.specs.Refs.Refs.{Ref, refs, places}
-use Rattle.storage.proofs.RefsLaws.Places.{get_or-map-in}
-use Rattle.time_cache.specs.Tables.{ExpiryRow, expiry_row_of, expiry_rows, row_at, expiry_row, entry_of, cache_of}
-use Rattle.protocol.specs.State.{Limits}
+use Rattle.time_cache.specs.Tables.{expiry_row_of, expiry_rows, row_at}
+use Rattle.time_cache.proofs.ExpiryLaws.{length-expiry_rows}
 use Rattle.protocol.specs.Whole.{content_held}
-use Rattle.block.specs.View.{limits_of, four_at, content_of, cached_of, cached_in, state_of}
+use Rattle.block.specs.View.{limits_of, four_at, cached_in, state_of}
 use Rattle.block.specs.Fit.{Fit}
-use Rattle.block.specs.Sound.{Adjoining, done, next}
+use Rattle.block.specs.Sound.{adjoin}
+use Rattle.block.specs.Contents.Starts.{len_of}
 use Rattle.block.specs.declared.head.Head.{Head}
 use Rattle.block.proofs.Tables.{length-table}
-use Rattle.block.specs.Sound.{adjoin}
+use Rattle.block.proofs.ContentsLaws.RowsAdjoin.{len-bytes, of-adjoin}
+use Rattle.block.proofs.ContentsLaws.Contents.{held-lens}
+use Rattle.block.proofs.ContentsLaws.Sums.{sum-places}
 use Rattle.whole.specs.Held.{all_below, places_name}
 use Rattle.whole.specs.Parts.{length_at, table_of}
-use Rattle.whole.proofs.HeldLaws.{adjoining-of}
 
 -- the number in four bytes of row i, as it lies in the table
 pub four-at : (s n i o : ℕ) (b : List ℕ) → o + 4 ≤ s → i < n → le_nat (part (i * s + o) 4 b) ≡ four_at o (get_or (rows s n b) i [])
@@ -65,53 +65,22 @@ module _ {A : Type 0} (f : A → ℕ) where
       let t : take (i + 1) l ≡ take i l ++ (get_or l i d ∷ []) = ap (λ (n : ℕ). take n l) (add-one i) ∙ take-suc l i d h in
       ap (sum f) t ∙ omega (arith, sum-append (take i l) (get_or l i d ∷ []))
 
--- where each content ends
-ends_by : (a : ℕ) (rs : List (List ℕ)) (e : ℕ) → Adjoining a rs e → a ≤ e
-ends_by a rs e done = omega arith
-ends_by a rs e (next row more s rest) = omega (arith, ends_by (a + four_at 44 row) more e rest)
-
-ends-within : (a : ℕ) (rs : List (List ℕ)) (e i : ℕ) → Adjoining a rs e → i < length rs → four_at 40 (get_or rs i []) + four_at 44 (get_or rs i []) ≤ e
-ends-within a rs e i done h = absurd (not-suc-le-zero h)
-ends-within a rs e zero (next row more s rest) h = omega (arith, ends_by (a + four_at 44 row) more e rest)
-ends-within a rs e (suc i) (next row more s rest) h = ends-within (a + four_at 44 row) more e i rest (le_of_suc-le-suc h)
-
--- start and length of a row's content stand after its identifier
-start-of : (row : List ℕ) → four_at 0 (drop 40 row) ≡ four_at 40 row
+-- the length in a row, as the row is read
+row-length : (rs : List (List ℕ)) (p : ℕ) → len_of (row_at (map expiry_row_of rs) p) ≡ length_at rs p
 unfolding four_at part
-start-of row = refl
-
-length-of : (row : List ℕ) → four_at 4 (drop 40 row) ≡ four_at 44 row
-unfolding four_at part
-length-of row = ap (λ (t : List ℕ). le_nat (take 4 t)) (drop-drop 4 40 row)
-
-module _ (store : List ℕ) (rs : List (List ℕ)) (used : ℕ) (a : Adjoining 0 rs used) (w : used ≤ length store) where
-  content-length : (p : ℕ) → p < length rs → length (content_of store (row_at (map expiry_row_of rs) p).rest) ≡ length_at rs p
-  unfolding content_of expiry_row_of
-  content-length p h =
-      let row : List ℕ = get_or rs p [] in
-      let r : row_at (map expiry_row_of rs) p ≡ expiry_row_of row = get_or-map-in expiry_row_of rs p (expiry_row 0 0 []) [] h in
-      ap (λ (x : ExpiryRow). length (content_of store x.rest)) r
-      ∙ (λ k. length (part (start-of row k) (length-of row k) store))
-      ∙ length_part (four_at 40 row) (four_at 44 row) store (omega (arith, ends-within 0 rs used p a h))
-
-  -- the contents of the entries that places name
-  pub content-sum : (es : List Ref) → all_below (length rs) (places es) ≡ true
-      → sum (λ e. length e.value.value.content) (map (entry_of (cached_of store) (map expiry_row_of rs)) es) ≡ sum (length_at rs) (places es)
-  unfolding sum cached_of
-  content-sum [] b = refl
-  content-sum (r ∷ es) b =
-      let h : r.place < length rs = ltb-true r.place (length rs) (all_head (λ p. ltb p (length rs)) r.place (places es) b) in
-      λ k. content-length r.place h k + content-sum es (all_tail (λ p. ltb p (length rs)) r.place (places es) b) k
+row-length [] p = refl
+row-length (row ∷ rs) zero = len-bytes row
+row-length (row ∷ rs) (suc p) = row-length rs p
 
 -- the contents of the cached messages
 pub content-held : (h : Head) (xs : List ℕ) → Fit h xs → places_name h.live.cached_rows 4 h.live.cached (table_of h 4 xs) ≡ true
     → adjoin 0 (rows 48 h.live.cached_rows (table_of h 5 xs)) h.live.contents ≡ true
     → content_held (state_of h xs) ≡ sum (length_at (rows 48 h.live.cached_rows (table_of h 5 xs))) (places (refs 4 h.live.cached (table_of h 4 xs)))
-unfolding content_held state_of cached_in cache_of expiry_rows
+unfolding content_held state_of cached_in expiry_rows
 content-held h xs fit b a =
-    let l : Limits = limits_of h.limits in
     let rs : List (List ℕ) = rows 48 h.live.cached_rows (table_of h 5 xs) in
     let es : List Ref = refs 4 h.live.cached (table_of h 4 xs) in
-    content-sum (table_of h 6 xs) rs h.live.contents (adjoining-of 0 rs h.live.contents a)
-    (omega (arith, fit.within.contents, length-table l 6 xs (lit< tt) fit.long)) es
-    (subst (λ (m : ℕ). all_below m (places es) ≡ true) (sym (length-rows 48 h.live.cached_rows (table_of h 5 xs))) b)
+    held-lens (table_of h 6 xs) (of-adjoin 0 rs h.live.contents a) (omega (arith, fit.within.contents, length-table (limits_of h.limits) 6 xs (lit< tt) fit.long)) es
+    (subst (λ (m : ℕ). all_below m (places es) ≡ true) (sym (length-expiry_rows 48 h.live.cached_rows (table_of h 5 xs))) b)
+    ∙ sum-places (λ p. len_of (row_at (map expiry_row_of rs) p)) es
+    ∙ (λ k. sum (λ p. row-length rs p k) (places es))

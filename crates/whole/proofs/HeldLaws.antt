@@ -1,6 +1,6 @@
 -- What is known of a block that holds a state.
 -- Assumes nothing.
-use Rattle.std.proofs.Common.{Some, ◌≡◌, subst, Bool, true, ◌&&◌, List, [], ◌∷◌, ℕ, ◌+◌, ◌*◌, ◌≤◌, arith, leb-true, eqb-true, leb, eqb, length, take, drop, get_or}
+use Rattle.std.proofs.Common.{Some, ◌≡◌, subst, Bool, true, ◌&&◌, List, [], ◌∷◌, ℕ, ◌*◌, ◌≤◌, arith, leb-true, eqb-true, leb, eqb, length, take, drop, get_or}
 use Rattle.storage.proofs.ListsLaws.MapLaws.{cases, true≢, and_left, and_right}
 use Rattle.storage.proofs.ListsLaws.Places.{all-at}
 use Rattle.storage.specs.Rows.Part.{part}
@@ -10,14 +10,13 @@ use Rattle.time_cache.proofs.Orders.{below_of}
 use Rattle.protocol.specs.State.{Limits, limits_in_range, up_to, block_need}
 use Rattle.protocol.specs.Whole.{content_held, whole}
 use Rattle.block.specs.Layout.{tables}
-use Rattle.block.specs.View.{limits_of, byte_at, four_at, view_of, state_of}
+use Rattle.block.specs.View.{limits_of, byte_at, view_of, state_of}
 use Rattle.block.specs.Fit.{Ceilings, WithinLimits, Fit}
-use Rattle.block.specs.Sound.{Numbered, AllNumbered, Adjoining, done, next, Laid, Sound}
+use Rattle.block.specs.Sound.{Numbered, AllNumbered, adjoin, Laid, Sound}
 use Rattle.block.specs.Header.{head_in}
 use Rattle.block.specs.declared.head.Head.{Head}
 use Rattle.block.specs.declared.head.Live.{Live}
 use Rattle.block.proofs.Tables.{within-need}
-use Rattle.block.specs.Sound.{adjoin}
 use Rattle.whole.specs.Held.{has_header, has_tables, counts_within, all_below, places_name, numbers_name, all_lists, laid_out, holds_with, held, whole_held, whole_block}
 use Rattle.whole.proofs.Tests.{each}
 
@@ -35,14 +34,6 @@ all-numbered-of m o s n bytes h = record {
       (subst (λ (row : List ℕ). numbers_name m (drop o row) ≡ true) (get_d_rows s n i [] bytes l)
       (all-at (λ row. numbers_name m (drop o row)) [] (rows s n bytes) h i (omega (arith, length-rows s n bytes))));
 }
-
-pub adjoining-of : (a : ℕ) (rs : List (List ℕ)) (e : ℕ) → adjoin a rs e ≡ true → Adjoining a rs e
-unfolding adjoin
-adjoining-of a [] e h = subst (λ (n : ℕ). Adjoining a [] n) (eqb-true a e h) done
-adjoining-of a (row ∷ more) e h =
-    let here : Bool = eqb (four_at 40 row) a in
-    let rest : Bool = adjoin (a + four_at 44 row) more e in
-    next row more (eqb-true (four_at 40 row) a (and_left here rest h)) (adjoining-of (a + four_at 44 row) more e (and_right here rest h))
 
 -- limits in range are within their ceilings
 up-to : (c n : ℕ) → up_to c n ≡ true → n ≤ c
@@ -132,7 +123,7 @@ laid_of h t a =
       received = below_of _ _ e.0;
       cached = below_of _ _ e.1.0;
       grafted = below_of _ _ e.1.1.0;
-      contents = adjoining-of _ _ _ e.1.1.1.1.1.1.1.0;
+      contents = e.1.1.1.1.1.1.1.0;
       used = eqb-true _ _ e.1.1.1.1.1.1.1.1.0;
       grafts = all-numbered-of _ _ _ _ _ e.1.1.1.0;
       missing = all-numbered-of _ _ _ _ _ e.1.1.1.1.0;

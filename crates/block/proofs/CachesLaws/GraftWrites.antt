@@ -1,6 +1,6 @@
 -- A write of the `first` or the `kept` of a grafted message: the value that its bytes then hold, and what the write does to the state.
 -- Assumes nothing.
-use Rattle.std.proofs.Common.{Option, Some, None, ◌≡◌, refl, sym, ap, ◌∙◌, subst, List, [], ◌∷◌, ◌++◌, map, ℕ, zero, suc, ◌+◌, ◌*◌, ◌^◌, ◌≤◌, ◌<◌, arith, lit<, ltb, eqb, length, take, drop, get_or, set, length-append, length-drop, take_all, drop_at}
+use Rattle.std.proofs.Common.{Option, Some, None, ◌≡◌, refl, sym, ap, ◌∙◌, subst, List, [], ◌∷◌, map, ℕ, zero, suc, ◌+◌, ◌*◌, ◌^◌, ◌≤◌, ◌<◌, arith, lit<, ltb, eqb, length, take, drop, get_or, set, length-append, length-drop, take_all, drop_at}
 use lib.Seq.{take-append-le}
 use Rattle.storage.specs.Lists.Map.{Map, Entry, entry, lookup, insert}
 use Rattle.storage.proofs.ListsLaws.MapLaws.{cases}

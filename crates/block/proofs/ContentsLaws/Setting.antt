@@ -10,9 +10,9 @@ use Rattle.storage.specs.Rows.Sorted.{Ascending, Here, Between}
 use Rattle.storage.proofs.RowsLaws.Parts.{length_part}
 use Rattle.storage.proofs.RowsLaws.Digits.{length-le_bytes}
 use Rattle.storage.specs.Refs.Refs.{Ref, ref, refs, places, Below}
-use Rattle.storage.proofs.RefsLaws.Places.{get_or-map-in, length-refs}
+use Rattle.storage.proofs.RefsLaws.Places.{get_or-map-in}
 use Rattle.time_cache.specs.TimeCache.{Timed, Cache, value_of, get, with_value, replace}
-use Rattle.time_cache.specs.Tables.{ExpiryRow, expiry_rows, row_at, named, entry_of, cache_of, refs_at}
+use Rattle.time_cache.specs.Tables.{ExpiryRow, expiry_rows, row_at, named, entry_of, cache_of}
 use Rattle.time_cache.specs.Steps.{ref_at}
 use Rattle.time_cache.proofs.Orders.{up_of}
 use Rattle.time_cache.proofs.ExpiryLaws.{length-expiry_rows}
@@ -223,9 +223,6 @@ module _ (h : Head) (xs content : List ℕ) (id i : ℕ) (sound : Sound h xs) (o
 
   below : Below (length rows) (places es)
   below = subst (λ (j : ℕ). Below j (places es)) (sym lrows) sound.laid.cached
-
-  pub entry-low : i < nc
-  entry-low = omega (arith, low, length-refs 4 nc (table lim 4 xs))
 
   pub row_low : row < mc
   row_low = omega (arith, names, place-low (length rows) es below i low, lrows)

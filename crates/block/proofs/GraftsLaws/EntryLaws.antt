@@ -1,7 +1,8 @@
 -- A new entry among the grafted messages: what the insert and the zeros after it leave, and the first peer of it.
 -- Assumes nothing.
-use Rattle.std.proofs.Common.{◌≡◌, refl, sym, ap, ◌∙◌, subst, ◌⊎◌, inl, inr, List, [], ◌∷◌, ◌++◌, map, ℕ, zero, suc, ◌+◌, ◌*◌, ◌^◌, ◌≤◌, ◌<◌, arith, lit<, length, take, drop, get_or, Result, Ok, Err}
+use Rattle.std.proofs.Common.{◌≡◌, refl, sym, ap, ◌∙◌, subst, ◌⊎◌, inl, inr, List, [], ◌∷◌, ◌++◌, map, ℕ, zero, suc, ◌+◌, ◌*◌, ◌^◌, ◌≤◌, ◌<◌, arith, lit<, length, take, drop, get_or, length-take-le, Result, Ok, Err}
 use lib.ListN.{length-map}
+use lib.Seq.{get_or_at}
 use Rattle.storage.specs.Lists.Map.{Entry, entry, keys}
 use Rattle.storage.proofs.ListsLaws.MapLaws.{ascending-insert}
 use Rattle.storage.specs.Rows.Part.{part, put}
@@ -54,12 +55,6 @@ no-grafts ps own rest = refl
 no-numbers : (m : ℕ) (own : List ℕ) → Listed m (put 0 zeros own)
 unfolding put le_bytes
 no-numbers m own = record { few = omega arith; below = record { below = λ i h. absurd (omega arith) } }
-
--- what was put into a list stands where it was put
-gap_at : {A : Type 0} (n : ℕ) (y d : A) (ms : List A) → n ≤ length ms → get_or (take n ms ++ (y ∷ drop n ms)) n d ≡ y
-gap_at zero y d ms h = refl
-gap_at (suc n) y d [] h = absurd (omega arith)
-gap_at (suc n) y d (m ∷ ms) h = gap_at n y d ms (omega arith)
 
 -- rows of places with one more: each is that one, or one of those that were there
 module _ (P : List ℕ → Type 0) (x : Ref) where
@@ -173,7 +168,7 @@ module _ (h : Head) (xs ys : List ℕ) (id expires : ℕ) (t : Inserted) (sound 
       let named-row : r.place ≡ t.row = ap (λ (k : TimeBoundCache). (ref_at (refs_at k ys) e).place) (sym sized) ∙ v.names in
       let rs : List ExpiryRow = rows_at (grafted_cache h) xs in
       let at : row_at (rows_at t.cache ys) t.row ≡ expiry_row expires id (row_at (rows_at t.cache ys) t.row).rest =
-      ap (λ (k : List ExpiryRow). row_at k t.row) v.rows ∙ gap_at t.row (expiry_row expires id (row_at (rows_at t.cache ys) t.row).rest) no_row rs (omega (arith, v.row, length-rs (grafted_cache h) xs)) in
+      ap (λ (k : List ExpiryRow). row_at k t.row) v.rows ∙ get_or_at (take t.row rs) (expiry_row expires id (row_at (rows_at t.cache ys) t.row).rest) (drop t.row rs) no_row t.row (length-take-le t.row rs (omega (arith, v.row, length-rs (grafted_cache h) xs))) in
       (λ k. (row_at (rows_at (sym sized k) ys) (named-row k)).key) ∙ ap (λ (y : ExpiryRow). y.key) at
 
   zs-long : length zs ≡ length xs

@@ -14,7 +14,7 @@ use Rattle.time_cache.proofs.TableLaws.{all-gap}
 use Rattle.block.specs.View.{byte_at, hops_in}
 use Rattle.storage.specs.Refs.Numbers.{pairs, numbered}
 use Rattle.block.specs.Sound.{Numbered}
-use Rattle.block.proofs.HopLaws.{three-nested}
+use Rattle.block.proofs.HopLaws.{three-nested, first-put}
 use Rattle.block.specs.HopSteps.{inserted_hop, round_put}
 
 -- numbers and rows, with one more of each in the same place, and with another row
@@ -52,10 +52,6 @@ take-opened k j l c h g =
     ∙ take-append-le (k + 1) (take j c ++ ys) rest (omega arith)
     ∙ take_all (k + 1) (take j c ++ ys) (omega arith)
     ∙ sym (λ i. take-take j k c h i ++ (l ∷ (ap (λ (n : ℕ). drop j (take n c)) (sym e) ∙ drop-take j (k - j) c) i))
-
-first-put : (x : ℕ) (list : List ℕ) → byte_at 0 (put 0 (x ∷ []) list) ≡ x
-unfolding put
-first-put x list = refl
 
 module _ (list : List ℕ) (long : length list ≡ 97) where
   abbrev k : ℕ

@@ -6,8 +6,7 @@ use Rattle.storage.specs.Lists.Map.{Map, Entry, entry, keys, lookup, insert}
 use Rattle.storage.specs.Rows.Part.{part, put}
 use Rattle.storage.specs.Rows.Digits.{le_bytes}
 use Rattle.storage.specs.Rows.Sorted.{Ascending, Here, Between}
-use Rattle.storage.proofs.RowsLaws.Digits.{length-le_bytes, le_nat-le_bytes}
-use Rattle.storage.proofs.RowsLaws.Parts.{put-inside}
+use Rattle.storage.proofs.RowsLaws.Digits.{le_nat-le_bytes}
 use Rattle.time_cache.specs.TimeCache.{Timed, Cache, value_of, get, put as put_in, with_value, replace}
 use Rattle.time_cache.proofs.Orders.{up_of}
 use Rattle.time_cache.proofs.MapPlaces.{insert-between, insert-here, lookup-here, lookup-between}
@@ -26,7 +25,7 @@ use Rattle.block.proofs.AnnounceLaws.{insert-same, insert-long}
 use Rattle.block.specs.Caches.InBlock.{AtMost}
 use Rattle.block.specs.Caches.GraftSteps.{grafted_at, grafts_at, Grafting, peers_to, peers_with, no_grafts, graft_noted}
 use Rattle.block.proofs.CachesLaws.GraftedLaws.{peers_of}
-use Rattle.block.proofs.CachesLaws.GraftLaws.{entry-below, list-long, list-numbered, peers-row}
+use Rattle.block.proofs.CachesLaws.GraftLaws.{list-long, list-numbered, peers-row}
 use Rattle.block.proofs.CachesLaws.GraftWrites.{peers-goes}
 use Rattle.block.specs.HopSteps.{inserted_hop, round_put}
 use Rattle.block.proofs.GraftsLaws.ListWrites.{inserted-long, hops-insert, numbered-inserted, round-long, hops-round, numbered-round}

@@ -1,5 +1,5 @@
 -- The two tables are left to `insert`, and the row has a content of no bytes where the next row's starts.
-use Rattle.std.proofs.Common.{sym, subst, ◌<◌, arith}
+use Rattle.std.proofs.Common.{sym, subst, arith}
 use Rattle.storage.specs.Rows.Ident.{id_of}
 use Rattle.time_cache.specs.Tables.{FitsOneMore, Sound}
 use Rattle.time_cache.specs.Steps.{Inserts}

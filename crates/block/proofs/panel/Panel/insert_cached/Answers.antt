@@ -1,5 +1,5 @@
 -- An old content goes, the entry is put in, and the content comes.
-use Rattle.std.proofs.Common.{refl, ◌∙◌}
+use Rattle.std.proofs.Common.{◌∙◌}
 use Rattle.storage.specs.Rows.Ident.{id_of}
 use Rattle.block.specs.View.{state_of}
 use Rattle.block.specs.Panels.{state}

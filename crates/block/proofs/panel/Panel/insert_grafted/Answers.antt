@@ -1,5 +1,5 @@
 -- By what the search found.
-use Rattle.std.proofs.Common.{◌<◌, ◌∙◌, subst, ℕ, List, length, Result, arith}
+use Rattle.std.proofs.Common.{◌∙◌, subst, ℕ, Result, arith}
 use lib.ListN.{length-map}
 use Rattle.storage.specs.Lists.Map.{Entry, keys}
 use Rattle.storage.specs.Rows.Ident.{id_of}

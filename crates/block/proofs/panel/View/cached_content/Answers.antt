@@ -1,5 +1,5 @@
 -- Start and length are those of the content in the view.
-use Rattle.std.proofs.Common.{◌≡◌, ◌+◌, ◌-◌, ap, ◌∙◌, ℕ, List, take, drop, arith}
+use Rattle.std.proofs.Common.{◌≡◌, ◌+◌, ◌-◌, ap, ◌∙◌, ℕ, take, drop, arith}
 use Rattle.storage.specs.Rows.Part.{part}
 use Rattle.block.proofs.CachesLaws.ContentReads.{content-ends, content-is}
 use Rattle.block.proofs.panel.View.cached_content.Goals as goal
@@ -7,8 +7,12 @@ use Rattle.block.proofs.panel.View.cached_content.Goals as goal
 pub slice_bounds-result-end : goal.slice_bounds-result-end
 slice_bounds-result-end c =
     let v = c.args.self.now in
-    omega (arith, content-ends v.head.now v.block.now v.sound c.args.entry c.requires c.cached_row.result c.cached_rows_at.result c.load4-start.result c.load4-len.result c.cached_row.ensures.at c.cached_rows_at.ensures c.load4-start.ensures.0 c.load4-len.ensures.0,
-      c.contents_at.ensures, v.sound.fit)
+    omega (
+      arith,
+      content-ends v.head.now v.block.now v.sound c.args.entry c.requires c.cached_row.result c.cached_rows_at.result c.load4-start.result c.load4-len.result c.cached_row.ensures.at c.cached_rows_at.ensures c.load4-start.ensures.0 c.load4-len.ensures.0,
+      c.contents_at.ensures,
+      v.sound.fit,
+    )
 
 pub returns : goal.returns
 unfolding part

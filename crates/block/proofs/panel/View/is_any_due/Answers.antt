@@ -1,5 +1,5 @@
 -- Of the tables that the message cache stands in.
-use Rattle.std.proofs.Common.{◌≡◌, not, sym, ap, ◌∙◌, List, subst}
+use Rattle.std.proofs.Common.{◌≡◌, not, ap, ◌∙◌, List, subst}
 use Rattle.storage.specs.Lists.Base.{is_empty}
 use Rattle.time_cache.specs.TimeCache.{Expiry, due}
 use Rattle.time_cache.specs.Tables.{cache_at}

@@ -1,6 +1,6 @@
 -- What a look-up in the links, the missing and the grafted messages answers.
 -- Assumes nothing.
-use Rattle.std.proofs.Common.{◌≡◌, ℕ, ◌<◌, length, refl, ap, arith, true, List, [], eqb, Result, Ok, Err, Option, Some, None}
+use Rattle.std.proofs.Common.{◌≡◌, ℕ, refl, ap, arith, true, [], eqb, Result, Ok, Err, Option, Some, None}
 use Rattle.std.specs.Result.{result_ok}
 use Rattle.std.specs.Option.{option_eq}
 use Rattle.storage.proofs.ListsLaws.KeyLaws.{eqb-sym}
@@ -12,8 +12,6 @@ use Rattle.time_cache.proofs.Orders.{up_of}
 use Rattle.time_cache.proofs.MapPlaces.{lookup-here, lookup-between}
 use Rattle.protocol.specs.State.{State}
 use Rattle.protocol.specs.Gossips.{hops_of, announcers, same_as}
-use Rattle.block.specs.View.{state_of}
-use Rattle.block.specs.declared.head.Head.{Head}
 use Rattle.block.proofs.AnnounceLaws.{key_here}
 use Rattle.block.proofs.LinkLaws.{neighbour-between}
 use Rattle.block.specs.Found.{LinkOf, MissingOf}

@@ -513,8 +513,7 @@ def unfoldings():
 
 
 PRELUDE = """-- The Rust's answers to lists of calls, which the definitions give too: outputs, answer numbers, states and counts. Written by tests/definitions/sample.py from calls.txt beside it.
-use Rattle.std.specs.Prelude.{ℕ, ◌≡◌, Bool, true, false, ◌&&◌, if◌then◌else◌, List, [], ◌∷◌, map, eqb, Some, None}
-use Rattle.std.proofs.Common.{refl}
+use Rattle.std.proofs.Common.{ℕ, ◌≡◌, Bool, true, false, ◌&&◌, if◌then◌else◌, List, [], ◌∷◌, map, eqb, Some, None, refl}
 use Rattle.std.proofs.Math.ListN.{replicate}
 %s
 use Rattle.storage.specs.Lists.Map.{entry}

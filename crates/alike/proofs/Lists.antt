@@ -5,9 +5,8 @@ use Rattle.storage.specs.Lists.Map.{Map, keys}
 use Rattle.storage.proofs.ListsLaws.MapLaws.{true≢, and_left, and_right, and_intro}
 use Rattle.storage.specs.Rows.Part.{part}
 use Rattle.storage.specs.Rows.Digits.{le_nat, le_bytes}
-use Rattle.storage.proofs.RowsLaws.Digits.{Bytes, le_bytes-le_nat}
+use Rattle.storage.proofs.RowsLaws.Digits.{Bytes, le_bytes-le_nat, part_bytes}
 use Rattle.storage.proofs.RowsLaws.Parts.{length_part, get_d_part}
-use Rattle.storage.proofs.RowsLaws.Turns.{part_bytes}
 use Rattle.storage.proofs.RefsLaws.Shifts.{low_or_high}
 use Rattle.time_cache.specs.TimeCache.{Expiry}
 use Rattle.protocol.specs.State.{State, Hop}

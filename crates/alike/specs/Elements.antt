@@ -1,13 +1,12 @@
 -- The lists of a state that are compared element by element, as lists of one kind of element: an expiry entry is a time and an identifier, an announcer or
 -- a grafted peer a peer and a round.
 -- Assumes nothing.
-use Rattle.std.specs.Prelude.{ℕ, ◌<◌, Bool, ◌&&◌, List, map, eqb}
+use Rattle.std.specs.Prelude.{ℕ, ◌<◌, Bool, ◌&&◌, List, map, eqb, length}
 use Rattle.storage.specs.Lists.Map.{Entry}
 use Rattle.storage.specs.Rows.Ident.{id_of}
 use Rattle.time_cache.specs.TimeCache.{Expiry}
 use Rattle.protocol.specs.State.{State, Hop}
 use Rattle.block.specs.MissingSteps.{hops_at}
-use Rattle.block.specs.declared.head.Live.{Live}
 use Rattle.block.specs.Caches.GraftSteps.{grafts_at}
 use Rattle.alike.specs.declared.sequences.Sequence.{Sequence}
 use Rattle.alike.specs.declared.sequences.Sequence.TheVariants.{ReceivedExpiry, GraftedExpiry, CachedExpiry, Announcers, GraftedPeers}
@@ -52,9 +51,9 @@ sequence_of (Announcers i) s = map hop_element (hops_at s i)
 sequence_of (GraftedPeers i) s = map graft_element (grafts_at s i).peers
 
 -- there is such a list
-abbrev pub InState : Sequence → Live → Type 0
-InState ReceivedExpiry v = Unit {0}
-InState GraftedExpiry v = Unit {0}
-InState CachedExpiry v = Unit {0}
-InState (Announcers i) v = i < v.missing
-InState (GraftedPeers i) v = i < v.grafted
+abbrev pub InState : Sequence → State → Type 0
+InState ReceivedExpiry s = Unit {0}
+InState GraftedExpiry s = Unit {0}
+InState CachedExpiry s = Unit {0}
+InState (Announcers i) s = i < length s.missing
+InState (GraftedPeers i) s = i < length s.grafted.entries

@@ -1,18 +1,15 @@
 -- The tables of a state that are kept in order: one row of each compared, and all of them.
 -- Assumes nothing.
-use Rattle.std.specs.Prelude.{ℕ, ◌<◌, Bool, ◌&&◌, ◌≡◌, List, [], eqb, get_or, Option}
+use Rattle.std.specs.Prelude.{ℕ, ◌<◌, Bool, ◌&&◌, ◌≡◌, List, [], eqb, length, get_or}
 use Rattle.storage.specs.Lists.Map.{Entry, entry}
 use Rattle.time_cache.specs.TimeCache.{Timed}
-use Rattle.protocol.specs.State.{State, Hop, Cached}
+use Rattle.protocol.specs.State.{State, Cached}
 use Rattle.protocol.specs.Alike.{same_list, same_map, same_mark, same_hop, same_grafts, same_cached, same_unit}
-use Rattle.block.specs.View.{only_if}
 use Rattle.block.specs.LinkSteps.{link_at}
 use Rattle.block.specs.MissingSteps.{missed_at}
-use Rattle.block.specs.declared.head.Live.{Live}
 use Rattle.block.specs.Caches.GraftSteps.{grafted_at}
 use Rattle.alike.specs.declared.tables.Table.{Table}
 use Rattle.alike.specs.declared.tables.Table.TheVariants.{Links, Missing, Timers, Received, Grafted, Cached as CachedRows}
-use Rattle.alike.specs.declared.tables.Sender.{Sender}
 
 -- two entries of maps
 abbrev pub same_entry : {A : Type 0} → (A → A → Bool) → Entry A → Entry A → Bool
@@ -49,21 +46,13 @@ same_rows Grafted s t = same_map (same_timed same_grafts) s.grafted.entries t.gr
 same_rows CachedRows s t = same_map (same_timed same_cached) s.cache.entries t.cache.entries
 
 -- how many rows it has
-abbrev pub rows_of : Table → Live → ℕ
-rows_of Links v = v.links
-rows_of Missing v = v.missing
-rows_of Timers v = v.timers
-rows_of Received v = v.received
-rows_of Grafted v = v.grafted
-rows_of CachedRows v = v.cached
-
--- the `first` of a grafted message
-abbrev pub first_of : Sender → Option Hop
-first_of z = only_if z.there (record { peer = z.peer; round = z.round.0 })
-
--- the `kept` of a grafted message
-abbrev pub kept_of : Sender → Option ℕ
-kept_of z = only_if z.there z.peer
+abbrev pub rows_of : Table → State → ℕ
+rows_of Links s = length s.links
+rows_of Missing s = length s.missing
+rows_of Timers s = length s.timers.graft
+rows_of Received s = length s.received.entries
+rows_of Grafted s = length s.grafted.entries
+rows_of CachedRows s = length s.cache.entries
 
 -- the first n numbers agree
 abbrev pub SameUpTo : ℕ → List ℕ → List ℕ → Type 0

@@ -1,15 +1,15 @@
 // Queue and record: the notes of each link are compared in their order. How those of different links are interleaved is not compared.
-ghost use Rattle.std.specs.Prelude.{◌≡◌, ◌≤◌, ◌<◌};
+ghost use Rattle.std.specs.Prelude.{◌≡◌, ◌≤◌, ◌<◌, true, length};
+ghost use Rattle.storage.specs.Lists.Base.{ascending};
 ghost use Rattle.storage.specs.Lists.Map.{keys};
 ghost use Rattle.protocol.specs.Alike.{same_notes};
-ghost use Rattle.block.specs.View.{state_of};
-ghost use Rattle.block.specs.Sound.{Sound};
-ghost use Rattle.block.specs.LinkSteps.{LinksAscend, peer_at};
-ghost use Rattle.block.specs.NoteSteps.{notes_of, count_of};
+ghost use Rattle.block.specs.Views.{shown};
+ghost use Rattle.block.specs.LinkSteps.{peer_at};
+ghost use Rattle.block.specs.NoteSteps.{notes_of};
 ghost use Rattle.alike.specs.NoteTable.{same_inside, same_for, NextOf};
 
-use block::head::Head;
 use block::note::{Note, NoteTable};
+use block::panel::View;
 
 // The notes of the queue, or of the record, that are for a link.
 #[derive(Clone, Copy)]
@@ -19,13 +19,13 @@ struct NotesFor {
 }
 
 // The first note from `from` on that is for the link; where there is none, the number of notes.
-fn next_of(of: NotesFor, head: Head, block: &[u8], from: usize) -> usize
-    requires { Sound head block.now × LinksAscend head block.now × (of.link < head.live.links) × (from ≤ count_of of.table head.live) }
-    ensures { NextOf (peer_at (state_of head block.now) of.link) from (notes_of of.table (state_of head block.now)) result }
+fn next_of(of: NotesFor, view: &View, from: usize) -> usize
+    requires { (ascending (keys (shown view.now).links) ≡ true) × (of.link < length (shown view.now).links) × (from ≤ length (notes_of of.table (shown view.now))) }
+    ensures { NextOf (peer_at (shown view.now) of.link) from (notes_of of.table (shown view.now)) result }
 {
-    let n = of.table.count(head.live);
+    let n = of.table.count(view.head.live);
     for i in from..n {
-        if of.table.link_at(head, block, i) == of.link {
+        if view.note_link(of.table, i) == of.link {
             return i;
         }
     }
@@ -40,38 +40,37 @@ fn same_note(x: Note, y: Note) -> bool
 }
 
 // Whether the notes for a link agree, in their order: a cursor in each block goes from one to the next.
-fn same_for(of: NotesFor, ha: Head, a: &[u8], hb: Head, b: &[u8]) -> bool
-    requires sound { Sound ha a.now × LinksAscend ha a.now × (of.link < ha.live.links) × Sound hb b.now × LinksAscend hb b.now × (of.link < hb.live.links) }
-    requires link_value { peer_at (state_of ha a.now) of.link ≡ peer_at (state_of hb b.now) of.link }
-    ensures { result ≡ same_for (peer_at (state_of ha a.now) of.link) (notes_of of.table (state_of ha a.now)) (notes_of of.table (state_of hb b.now)) }
+fn same_for(of: NotesFor, x: &View, y: &View) -> bool
+    requires up { (ascending (keys (shown x.now).links) ≡ true) × (ascending (keys (shown y.now).links) ≡ true) }
+    requires there { (of.link < length (shown x.now).links) × (of.link < length (shown y.now).links) }
+    requires same_peer { peer_at (shown x.now) of.link ≡ peer_at (shown y.now) of.link }
+    ensures { result ≡ same_for (peer_at (shown x.now) of.link) (notes_of of.table (shown x.now)) (notes_of of.table (shown y.now)) }
 {
-    let n = of.table.count(ha.live);
-    let m = of.table.count(hb.live);
-    let mut i = next_of(of, ha, a, 0);
-    let mut j = next_of(of, hb, b, 0);
+    let n = of.table.count(x.head.live);
+    let m = of.table.count(y.head.live);
+    let mut i = next_of(of, x, 0);
+    let mut j = next_of(of, y, 0);
     while i < n {
         if m <= j {
             return false;
         }
-        let x = of.table.note_at(ha, a, i);
-        let y = of.table.note_at(hb, b, j);
-        if !same_note(x, y) {
+        if !same_note(x.note_at(of.table, i), y.note_at(of.table, j)) {
             return false;
         }
-        i = next_of(of, ha, a, i + 1);
-        j = next_of(of, hb, b, j + 1);
+        i = next_of(of, x, i + 1);
+        j = next_of(of, y, j + 1);
     }
     m <= j
 }
 
 // Whether queue or record of two blocks agree, link by link. The links of both are the same.
-pub fn same_notes(table: NoteTable, ha: Head, a: &[u8], hb: Head, b: &[u8]) -> bool
-    requires sound { Sound ha a.now × LinksAscend ha a.now × Sound hb b.now × LinksAscend hb b.now }
-    requires a_value { keys (state_of ha a.now).links ≡ keys (state_of hb b.now).links }
-    ensures { result ≡ same_notes (notes_of table (state_of ha a.now)) (notes_of table (state_of hb b.now)) }
+pub fn same_notes(table: NoteTable, x: &View, y: &View) -> bool
+    requires up { (ascending (keys (shown x.now).links) ≡ true) × (ascending (keys (shown y.now).links) ≡ true) }
+    requires same_links { keys (shown x.now).links ≡ keys (shown y.now).links }
+    ensures { result ≡ same_notes (notes_of table (shown x.now)) (notes_of table (shown y.now)) }
 {
-    for link in 0..ha.live.links {
-        if !same_for(NotesFor { table, link }, ha, a, hb, b) {
+    for link in 0..x.link_count() {
+        if !same_for(NotesFor { table, link }, x, y) {
             return false;
         }
     }

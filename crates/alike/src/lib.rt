@@ -6,17 +6,19 @@ mod by_link;
 mod sequences;
 mod tables;
 
-ghost use Rattle.std.specs.Prelude.{◌≡◌, ◌&&◌, length};
+ghost use Rattle.std.specs.Prelude.{◌≡◌, true, ◌&&◌, length};
+ghost use Rattle.storage.specs.Lists.Base.{ascending};
+ghost use Rattle.storage.specs.Lists.Map.{keys};
 ghost use Rattle.protocol.specs.Alike.{same_settings, same_limits, same_tables, same_caches, same_flags, alike, alike_blocks};
-ghost use Rattle.block.specs.View.{settings_of, limits_of, state_of};
-ghost use Rattle.block.specs.Sound.{Sound};
-ghost use Rattle.block.specs.LinkSteps.{LinksAscend};
+ghost use Rattle.block.specs.View.{settings_of, limits_of};
+ghost use Rattle.block.specs.Views.{shown};
 ghost use Rattle.whole.specs.Held.{held};
 ghost use Rattle.alike.specs.Answer.{answered};
 
-use block::head::{Head, Limits, Settings};
+use block::head::{Limits, Settings};
 use block::header;
 use block::note::NoteTable;
+use block::panel::View;
 use sequences::Sequence;
 use tables::Table;
 
@@ -56,54 +58,53 @@ fn same_limits(a: Limits, b: Limits) -> bool
 
 // "flags"
 #[tactic(auto, unfolding(protocol::specs::Alike::same_flags, block::specs::View::state_of))]
-fn same_flags(ha: Head, a: &[u8], hb: Head, b: &[u8]) -> bool
-    ensures { result ≡ same_flags (state_of ha a.now) (state_of hb b.now) }
+fn same_flags(x: &View, y: &View) -> bool
+    ensures { result ≡ same_flags (shown x.now) (shown y.now) }
 {
-    let x = ha.live;
-    let y = hb.live;
-    tables::same_flag(x.init, y.init)
-        && tables::same_flag(x.dispatch_timer_scheduled, y.dispatch_timer_scheduled)
-        && tables::same_flag(x.announce_dropped_scheduled, y.announce_dropped_scheduled)
+    let a = x.head.live;
+    let b = y.head.live;
+    tables::same_flag(a.init, b.init)
+        && tables::same_flag(a.dispatch_timer_scheduled, b.dispatch_timer_scheduled)
+        && tables::same_flag(a.announce_dropped_scheduled, b.announce_dropped_scheduled)
 }
 
 // "sets .. and maps": links, queue, record, announcers, graft timers.
 #[tactic(auto, unfolding(protocol::specs::Alike::same_tables), using(crate::proofs::Lists::links_keys))]
-fn same_tables(ha: Head, a: &[u8], hb: Head, b: &[u8]) -> bool
-    requires { Sound ha a.now × LinksAscend ha a.now × Sound hb b.now × LinksAscend hb b.now }
-    ensures { result ≡ same_tables (state_of ha a.now) (state_of hb b.now) }
+fn same_tables(x: &View, y: &View) -> bool
+    requires { (ascending (keys (shown x.now).links) ≡ true) × (ascending (keys (shown y.now).links) ≡ true) }
+    ensures { result ≡ same_tables (shown x.now) (shown y.now) }
 {
-    tables::same_rows(Table::Links, ha, a, hb, b)
-        && by_link::same_notes(NoteTable::Queue, ha, a, hb, b)
-        && by_link::same_notes(NoteTable::Record, ha, a, hb, b)
-        && tables::same_rows(Table::Missing, ha, a, hb, b)
-        && tables::same_rows(Table::Timers, ha, a, hb, b)
+    tables::same_rows(Table::Links, x, y)
+        && by_link::same_notes(NoteTable::Queue, x, y)
+        && by_link::same_notes(NoteTable::Record, x, y)
+        && tables::same_rows(Table::Missing, x, y)
+        && tables::same_rows(Table::Timers, x, y)
 }
 
 // "maps": the three time caches.
 #[tactic(auto, unfolding(protocol::specs::Alike::same_caches, protocol::specs::Alike::same_cache), using(crate::proofs::Lists::list_expiry))]
-fn same_caches(ha: Head, a: &[u8], hb: Head, b: &[u8]) -> bool
-    requires { Sound ha a.now × Sound hb b.now }
-    ensures { result ≡ same_caches (state_of ha a.now) (state_of hb b.now) }
+fn same_caches(x: &View, y: &View) -> bool
+    ensures { result ≡ same_caches (shown x.now) (shown y.now) }
 {
-    tables::same_rows(Table::Received, ha, a, hb, b)
-        && sequences::same_sequence(Sequence::ReceivedExpiry, ha, a, hb, b)
-        && tables::same_rows(Table::Grafted, ha, a, hb, b)
-        && sequences::same_sequence(Sequence::GraftedExpiry, ha, a, hb, b)
-        && tables::same_rows(Table::Cached, ha, a, hb, b)
-        && sequences::same_sequence(Sequence::CachedExpiry, ha, a, hb, b)
+    tables::same_rows(Table::Received, x, y)
+        && sequences::same_sequence(Sequence::ReceivedExpiry, x, y)
+        && tables::same_rows(Table::Grafted, x, y)
+        && sequences::same_sequence(Sequence::GraftedExpiry, x, y)
+        && tables::same_rows(Table::Cached, x, y)
+        && sequences::same_sequence(Sequence::CachedExpiry, x, y)
 }
 
 // The states of two blocks.
 #[tactic(auto, unfolding(protocol::specs::Alike::alike, block::specs::View::state_of))]
-fn same_states(ha: Head, a: &[u8], hb: Head, b: &[u8]) -> bool
-    requires { Sound ha a.now × LinksAscend ha a.now × Sound hb b.now × LinksAscend hb b.now }
-    ensures { result ≡ alike (state_of ha a.now) (state_of hb b.now) }
+fn same_states(x: &View, y: &View) -> bool
+    requires { (ascending (keys (shown x.now).links) ≡ true) × (ascending (keys (shown y.now).links) ≡ true) }
+    ensures { result ≡ alike (shown x.now) (shown y.now) }
 {
-    same_settings(ha.settings, hb.settings)
-        && same_limits(ha.limits, hb.limits)
-        && same_tables(ha, a, hb, b)
-        && same_caches(ha, a, hb, b)
-        && same_flags(ha, a, hb, b)
+    same_settings(x.head.settings, y.head.settings)
+        && same_limits(x.head.limits, y.head.limits)
+        && same_tables(x, y)
+        && same_caches(x, y)
+        && same_flags(x, y)
 }
 
 // *Alike*: nothing where either block is not whole.
@@ -116,7 +117,15 @@ pub fn alike(a: &[u8], b: &[u8]) -> Option<bool>
     if !whole::is_whole(b) {
         return None;
     }
-    let ha = header::load_head(a);
-    let hb = header::load_head(b);
-    Some(same_states(ha, a, hb, b))
+    let head_a = header::load_head(a);
+    let head_b = header::load_head(b);
+    let x = View {
+        head: &head_a,
+        block: a,
+    };
+    let y = View {
+        head: &head_b,
+        block: b,
+    };
+    Some(same_states(&x, &y))
 }

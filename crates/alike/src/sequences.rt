@@ -2,19 +2,16 @@
 ghost use Rattle.std.specs.Prelude.{◌≡◌, ◌<◌, length, get_or};
 ghost use Rattle.time_cache.specs.Tables.{Lies, rows_at, row_at, expiry_of};
 ghost use Rattle.protocol.specs.Alike.{same_list};
-ghost use Rattle.block.specs.View.{state_of};
-ghost use Rattle.block.specs.Sound.{Sound};
+ghost use Rattle.block.specs.Views.{shown};
 ghost use Rattle.block.specs.LinkSteps.{peer_at};
 ghost use Rattle.alike.specs.Elements.{element, same_element, expiry_element, element_of, sequence_of, InState};
 
 use block::caches::cached::MessageCache;
-use block::caches::grafted;
 use block::caches::grafted::GraftedMessages;
 use block::caches::received::ReceivedMessages;
-use block::head::Head;
 use block::hops::Hop;
+use block::panel::View;
 use block::time_caches::PanelCache;
-use block::{links, missing};
 use storage::rows::id;
 use storage::rows::id::Id;
 use time_cache::cache::TimeBoundCache;
@@ -59,9 +56,9 @@ pub fn row_item(cache: TimeBoundCache, block: &[u8], place: usize) -> Item
 }
 
 // A peer and a round, by the number of the peer's link.
-fn hop_item(head: Head, block: &[u8], hop: Hop) -> Item
-    requires { Sound head block.now × (hop.link < head.live.links) }
-    ensures { element_of result ≡ element (peer_at (state_of head block.now) hop.link) 0 hop.round.0 }
+fn hop_item(view: &View, hop: Hop) -> Item
+    requires { hop.link < length (shown view.now).links }
+    ensures { element_of result ≡ element (peer_at (shown view.now) hop.link) 0 hop.round.0 }
 {
     let none = Id {
         w0: 0,
@@ -70,51 +67,51 @@ fn hop_item(head: Head, block: &[u8], hop: Hop) -> Item
         w3: 0,
     };
     Item {
-        a: links::peer_at(head, block, hop.link),
+        a: view.link(hop.link).peer,
         id: none,
         b: hop.round.0 as u64,
     }
 }
 
 // How many elements a list has.
-fn size(of: Sequence, head: Head, block: &[u8]) -> usize
-    requires { Sound head block.now × InState of head.live }
-    ensures { result ≡ length (sequence_of of (state_of head block.now)) }
+fn size(of: Sequence, view: &View) -> usize
+    requires { InState of (shown view.now) }
+    ensures { result ≡ length (sequence_of of (shown view.now)) }
 {
     match of {
-        Sequence::ReceivedExpiry => head.live.received_rows,
-        Sequence::GraftedExpiry => head.live.grafted_rows,
-        Sequence::CachedExpiry => head.live.cached_rows,
-        Sequence::Announcers(i) => missing::announcers_of(head, block, i),
-        Sequence::GraftedPeers(i) => grafted::graft_count(head, block, i),
+        Sequence::ReceivedExpiry => view.head.live.received_rows,
+        Sequence::GraftedExpiry => view.head.live.grafted_rows,
+        Sequence::CachedExpiry => view.head.live.cached_rows,
+        Sequence::Announcers(i) => view.announcer_count(i),
+        Sequence::GraftedPeers(i) => view.graft_count(i),
     }
 }
 
 // Element j of a list.
-fn item_at(of: Sequence, head: Head, block: &[u8], j: usize) -> Item
-    requires { Sound head block.now × InState of head.live × (j < length (sequence_of of (state_of head block.now))) }
-    ensures { element_of result ≡ get_or (sequence_of of (state_of head block.now)) j (element 0 0 0) }
+fn item_at(of: Sequence, view: &View, j: usize) -> Item
+    requires { InState of (shown view.now) × (j < length (sequence_of of (shown view.now))) }
+    ensures { element_of result ≡ get_or (sequence_of of (shown view.now)) j (element 0 0 0) }
 {
     match of {
-        Sequence::ReceivedExpiry => row_item(ReceivedMessages::table(head), block, j),
-        Sequence::GraftedExpiry => row_item(GraftedMessages::table(head), block, j),
-        Sequence::CachedExpiry => row_item(MessageCache::table(head), block, j),
-        Sequence::Announcers(i) => hop_item(head, block, missing::announcer_at(head, block, i, j)),
-        Sequence::GraftedPeers(i) => hop_item(head, block, grafted::graft_at(head, block, i, j)),
+        Sequence::ReceivedExpiry => row_item(ReceivedMessages::table(view.head), view.block, j),
+        Sequence::GraftedExpiry => row_item(GraftedMessages::table(view.head), view.block, j),
+        Sequence::CachedExpiry => row_item(MessageCache::table(view.head), view.block, j),
+        Sequence::Announcers(i) => hop_item(view, view.announcer(i, j)),
+        Sequence::GraftedPeers(i) => hop_item(view, view.graft(i, j)),
     }
 }
 
 // Whether the lists of two blocks agree, element by element.
-pub fn same_sequence(of: Sequence, ha: Head, a: &[u8], hb: Head, b: &[u8]) -> bool
-    requires { Sound ha a.now × InState of ha.live × Sound hb b.now × InState of hb.live }
-    ensures { result ≡ same_list same_element (sequence_of of (state_of ha a.now)) (sequence_of of (state_of hb b.now)) }
+pub fn same_sequence(of: Sequence, x: &View, y: &View) -> bool
+    requires { InState of (shown x.now) × InState of (shown y.now) }
+    ensures { result ≡ same_list same_element (sequence_of of (shown x.now)) (sequence_of of (shown y.now)) }
 {
-    let n = size(of, ha, a);
-    if n != size(of, hb, b) {
+    let n = size(of, x);
+    if n != size(of, y) {
         return false;
     }
     for j in 0..n {
-        if !same(item_at(of, ha, a, j), item_at(of, hb, b, j)) {
+        if !same(item_at(of, x, j), item_at(of, y, j)) {
             return false;
         }
     }

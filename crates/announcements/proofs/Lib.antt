@@ -4,3 +4,4 @@ pub mod OnSendGraftTimerLaws
 pub mod OnIhaveLaws
 pub mod OnAnnounceDroppedTimerLaws
 pub mod OnDispatchLaws
+pub mod PerMessageLaws

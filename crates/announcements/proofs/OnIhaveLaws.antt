@@ -1,6 +1,6 @@
 -- An IHave from the neighbour of a link: one announcement, all of them, and what they add and schedule.
 -- Assumes nothing.
-use Rattle.std.proofs.Common.{◌≡◌, ℕ, ◌+◌, ◌≤◌, ◌<◌, length, get_or, take, drop, refl, sym, ap, ◌∙◌, arith, Bool, true, false, not, ◌&&◌, List, [], ◌∷◌, ◌++◌, map, append_assoc, if◌then◌else◌, subst, append-nil, length-append, length-take, take-append-drop, add-zero, take_all}
+use Rattle.std.proofs.Common.{◌≡◌, ℕ, ◌+◌, ◌≤◌, ◌<◌, length, get_or, take, drop, refl, sym, ap, ◌∙◌, arith, Bool, true, false, not, ◌&&◌, List, [], ◌∷◌, ◌++◌, map, append_assoc, if◌then◌else◌, subst, append-nil, length-take, take-append-drop, add-zero, take_all}
 use lib.ListN.{length-map}
 use mir.Val.{bool_byte}
 use Rattle.storage.specs.Lists.Base.{any, member, concat_map}
@@ -22,8 +22,8 @@ use Rattle.decide.proofs.IHave.{ihave-sizes}
 use Rattle.decide.proofs.StateAfterLaws.{ihave-state}
 use Rattle.block.specs.LinkSteps.{peer_at}
 use Rattle.block.specs.MissingSteps.{hop, announced_by, Announcing}
-use Rattle.wire.specs.Encode.Intake.{Intake, after, space_of}
-use Rattle.wire.proofs.EncodeLaws.IntakeLaws.{after_append, after_nil, room_after}
+use Rattle.wire.specs.Encode.Intake.{Intake, after}
+use Rattle.wire.proofs.EncodeLaws.IntakeLaws.{after_append, after_nil}
 use Rattle.block.specs.TimerSteps.{timer_marked}
 use Rattle.block.specs.Panels.{AtRest, Allowed}
 use Rattle.steps.specs.Shared.{sizes_value}
@@ -37,7 +37,7 @@ use Rattle.announcements.proofs.IhavesLaws.Longer.{fits-missing, fits-timers}
 use Rattle.announcements.proofs.IhavesLaws.HeardLaws.{Hears, hears-links, hears-limits, hears-ranged, hears-fits, marked-hears, few-announcers, announced-received, announced-missing, ihave-append, ihave-hears, ihave-consistent, link_near}
 use Rattle.announcements.specs.OnIhave.{Adds}
 use Rattle.announcements.specs.declared.on_ihave.New.{New}
-use Rattle.announcements.proofs.IhavesLaws.NewLaws.{new-more, new-rest, later_ids, new-few-all, count-more, missing-received, missing-there, missing-before, missing-else, timer-received, timer-marked, timer-before, timer-else}
+use Rattle.announcements.proofs.IhavesLaws.NewLaws.{new-more, new-few-all, count-more, missing-received, missing-there, missing-before, missing-else, timer-received, timer-marked, timer-before, timer-else}
 
 -- one announcement
 
@@ -270,23 +270,6 @@ module _ (t : State) where
 
         pub schedule-next : after entry_bytes now ≡ after (scheduled t (take (i + 1) hs)) h
         schedule-next = ap (after entry_bytes) so ∙ after_append (scheduled t (take i hs)) entry_bytes h ∙ ap (λ (l : List ℕ). after l h) (sym (new x (take i hs) (take (i + 1) hs) taken e))
-
-        all : scheduled t hs ≡ (scheduled t (take i hs) ++ entry_bytes) ++ timer_bytes d (later_ids (known_timer t) (i + 1) hs)
-        all =
-            as-timers hs ∙ ap (timer_bytes d) (new-rest (known_timer t) (i + 1) hs)
-            ∙ bytes-append d (new_ids (known_timer t) [] (take (i + 1) hs)) (later_ids (known_timer t) (i + 1) hs)
-            ∙ ap (λ (l : List ℕ). l ++ timer_bytes d (later_ids (known_timer t) (i + 1) hs)) (sym (as-timers (take (i + 1) hs)) ∙ new x (take i hs) (take (i + 1) hs) taken e)
-
-        pub schedule-room : length (scheduled t hs) ≤ space_of h → length entry_bytes ≤ space_of now
-        schedule-room r =
-            rw so (rw (room_after (scheduled t (take i hs)) h)
-            (omega (
-              arith,
-              r,
-              ap length all,
-              length-append (scheduled t (take i hs) ++ entry_bytes) (timer_bytes d (later_ids (known_timer t) (i + 1) hs)),
-              length-append (scheduled t (take i hs)) entry_bytes,
-            )))
 
 -- a first event leaves the missing messages, the timers and the settings as they are
 module _ (now : ℕ) (s : State) where

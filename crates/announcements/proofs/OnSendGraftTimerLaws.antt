@@ -48,11 +48,10 @@ use Rattle.block.specs.Panels.{AtRest}
 use Rattle.steps.specs.Shared.{EntryIs, sizes_value}
 use Rattle.steps.specs.declared.call.Call.{Call}
 use Rattle.steps.specs.declared.Sizes.{Sizes as CodeSizes}
-use Rattle.steps.proofs.AtRestLaws.{settled-as, settled-up, settled-low}
+use Rattle.steps.proofs.AtRestLaws.{settled-as, settled-up, settled-low, in_order}
 use Rattle.steps.proofs.EvictStepLaws.{rest-settled}
 use Rattle.block.proofs.PanelLaws.{same_keys, link-key}
 use Rattle.steps.proofs.RoomsLaws.{kth-link}
-use Rattle.steps.proofs.StandsLaws.{in_order}
 use Rattle.steps.proofs.TakeInLaws.{byte-small}
 use Rattle.announcements.specs.SendGraft.Asks.{asked_first, missing_left}
 use Rattle.announcements.specs.OnSendGraftTimer.{send_graft_bytes}

@@ -11,12 +11,14 @@ ghost use Rattle.announcements.specs.Announce.Moves.{moved_state};
 ghost use Rattle.announcements.specs.OnAnnounceDroppedTimer.{announce_bytes, queue_stands, record_stands};
 
 use block::head::MAX_LINKS;
+use block::note::NoteTable;
+use block::panel::{Panel, View};
 use protocol::DROPPED_PER_TICK;
 use steps::Sizes;
 use steps::call::Call;
-use steps::panel::Panel;
+use steps::lookups::is_cached_then;
 use steps::schedule::{schedule_announce_dropped, schedule_dispatch};
-use steps::view::View;
+use steps::settled::sizes_then;
 use wire::encode::sink::Sink;
 
 // How many identifiers of each link have been passed.
@@ -52,13 +54,13 @@ pub fn announce_sizes(view: &View, call: &Call) -> Sizes
     requires { AtRest (shown view.now) }
     ensures { sizes_value result ≡ sizes_of (announce_state (settled call.now.instant.0 (shown view.now))) }
 {
-    let mut sizes = view.sizes_then(call.instant);
+    let mut sizes = sizes_then(view, call.instant);
     let mut passed = Passed::none();
     let mut moved = 0;
     let mut left = 0;
     for row in 0..view.head.live.dropped {
         let note = view.recorded(row);
-        if !view.is_cached_then(call.instant, note.id) {
+        if !is_cached_then(view, call.instant, note.id) {
             continue;
         }
         if passed.is_oldest(note.link) {
@@ -82,7 +84,7 @@ fn queue_stands(view: &View, call: &Call) -> bool
         return true;
     }
     for row in 0..view.head.live.dropped {
-        if view.is_cached_then(call.instant, view.recorded(row).id) {
+        if is_cached_then(view, call.instant, view.recorded(row).id) {
             return true;
         }
     }
@@ -101,7 +103,7 @@ fn record_stands(view: &View, call: &Call) -> bool
     let mut passed = Passed::none();
     for row in 0..view.head.live.dropped {
         let note = view.recorded(row);
-        if !view.is_cached_then(call.instant, note.id) {
+        if !is_cached_then(view, call.instant, note.id) {
             continue;
         }
         if !passed.is_oldest(note.link) {
@@ -136,7 +138,7 @@ fn move_oldest(panel: &mut Panel)
             continue;
         }
         if passed.is_oldest(note.link) {
-            panel.push_queued(note.link, note.id, note.round);
+            panel.push_note(NoteTable::Queue, note);
         } else {
             panel.set_dropped(kept, note);
             kept += 1;

@@ -14,11 +14,12 @@ ghost use Rattle.announcements.specs.Ihaves.Heard.{announced_from};
 ghost use Rattle.announcements.specs.Ihaves.New.{is_for, is_new, is_received};
 ghost use Rattle.announcements.specs.OnIhave.{after_ihave, ihave_bytes, Adds};
 
+use block::panel::{Panel, View};
 use postcard::message::{Ihave, Timer};
 use steps::Sizes;
 use steps::call::Call;
-use steps::panel::Panel;
-use steps::view::View;
+use steps::lookups::is_received_then;
+use steps::settled::sizes_then;
 use storage::rows::id::Id;
 use wire::encode::Encode;
 use wire::encode::action::Schedule;
@@ -52,7 +53,7 @@ pub fn all_received(view: &View, call: &Call, ihaves: Ihaves) -> bool
     ensures { result ≡ all (is_received (settled call.now.instant.0 (shown view.now))) (ihaves_value ihaves.entry) }
 {
     for ihave in ihaves {
-        if !view.is_received_then(call.instant, ihave.id) {
+        if !is_received_then(view, call.instant, ihave.id) {
             return false;
         }
     }
@@ -76,7 +77,7 @@ fn new_of(view: &View, call: &Call, before: Ihaves, id: Id) -> New
     requires { AtRest (shown view.now) }
     ensures { Adds (settled call.now.instant.0 (shown view.now)) (ihaves_value before.entry) (id_of id) result }
 {
-    if view.is_received_then(call.instant, id) {
+    if is_received_then(view, call.instant, id) {
         return New::NOTHING;
     }
     let new = New {
@@ -98,7 +99,7 @@ fn gets_timer(view: &View, call: &Call, before: Ihaves, id: Id) -> bool
     requires { AtRest (shown view.now) }
     ensures { result ≡ is_new (known_timer (settled call.now.instant.0 (shown view.now))) (ihaves_value before.entry) (id_of id) }
 {
-    !view.is_received_then(call.instant, id) && !view.has_timer(id) && !stands_before(before, id)
+    !is_received_then(view, call.instant, id) && !view.has_timer(id) && !stands_before(before, id)
 }
 
 // The numbers of entries after it (question 13), whichever neighbour it is from. Its time is that of look-ups and of a pass over the entries before, for each entry: a
@@ -108,7 +109,7 @@ pub fn ihave_sizes(view: &View, call: &Call, ihaves: Ihaves) -> Sizes
     requires few { ihaves.count < 2 ^ 32 }
     ensures { (link : ℕ) → sizes_value result ≡ sizes_of (after_ihave link ihaves.entry (settled call.now.instant.0 (shown view.now))) }
 {
-    let mut sizes = view.sizes_then(call.instant);
+    let mut sizes = sizes_then(view, call.instant);
     let mut i = 0;
     for ihave in ihaves {
         let new = new_of(view, call, ihaves.first(i), ihave.id);

@@ -12,11 +12,13 @@ ghost use Rattle.block.specs.Found.{MissingAt};
 ghost use Rattle.announcements.specs.SendGraft.Asks.{asked_first};
 ghost use Rattle.announcements.specs.OnSendGraftTimer.{after_send_graft, send_graft_bytes};
 
+use block::panel::{Panel, View};
 use postcard::message::Timer;
 use steps::Sizes;
 use steps::call::Call;
-use steps::panel::Panel;
-use steps::view::View;
+use steps::lookups::{grafted_entry_then, is_received_then};
+use steps::note_graft::note_graft;
+use steps::settled::sizes_then;
 use storage::rows::id::Id;
 use wire::encode::Encode;
 use wire::encode::action::{Schedule, Send};
@@ -28,16 +30,16 @@ pub fn send_graft_sizes(view: &View, call: &Call, id: Id) -> Sizes
     requires { AtRest (shown view.now) }
     ensures { sizes_value result ≡ sizes_of (after_send_graft call.now id (settled call.now.instant.0 (shown view.now))) }
 {
-    let mut sizes = view.sizes_then(call.instant);
+    let mut sizes = sizes_then(view, call.instant);
     sizes.timers -= view.has_timer(id) as usize;
-    if view.is_received_then(call.instant, id) {
+    if is_received_then(view, call.instant, id) {
         return sizes;
     }
     let Some(entry) = view.find_missing(id) else {
         return sizes;
     };
     sizes.missing -= (view.announcer_count(entry) == 1) as usize;
-    if view.grafted_entry_then(call.instant, id).is_some() {
+    if grafted_entry_then(view, call.instant, id).is_some() {
         return sizes;
     }
     sizes.grafted += 1;
@@ -50,7 +52,7 @@ pub fn send_graft_actions<S: Sink>(view: &View, call: &Call, out: &mut S, id: Id
     requires rest { AtRest (shown view.now) }
     ensures { S.intake out.new ≡ after (send_graft_bytes call.now id (settled call.now.instant.0 (shown view.now))) (S.intake out.old) }
 {
-    if view.is_received_then(call.instant, id) {
+    if is_received_then(view, call.instant, id) {
         return;
     }
     let Some(entry) = view.find_missing(id) else {
@@ -86,7 +88,7 @@ fn ask_first(panel: &mut Panel, call: &Call, id: Id, entry: usize)
     let first = panel.view().announcer(entry, 0);
     panel.leave_first(entry);
     panel.add_eager(first.link);
-    panel.note_graft(call, first.link, id, first.round);
+    note_graft(panel, call, first.link, id, first.round);
 }
 
 // The step: the mark goes; unless the message is received, its first announcer is asked. Its time is that of an insert into a time cache.

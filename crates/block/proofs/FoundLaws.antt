@@ -1,6 +1,6 @@
 -- What a look-up in the links, the missing and the grafted messages answers.
 -- Assumes nothing.
-use Rattle.std.proofs.Common.{◌≡◌, ℕ, ◌<◌, length, refl, ap, arith, true, List, [], eqb, Result, Ok, Err, Option, Some, None}
+use Rattle.std.proofs.Common.{◌≡◌, ℕ, refl, ap, arith, true, List, [], eqb, Result, Ok, Err, Option, Some, None}
 use Rattle.std.specs.Result.{result_ok}
 use Rattle.std.specs.Option.{option_eq}
 use Rattle.storage.proofs.ListsLaws.KeyLaws.{eqb-sym}
@@ -12,11 +12,8 @@ use Rattle.time_cache.proofs.Orders.{up_of}
 use Rattle.time_cache.proofs.MapPlaces.{lookup-here, lookup-between}
 use Rattle.protocol.specs.State.{State}
 use Rattle.protocol.specs.Gossips.{hops_of, announcers, same_as}
-use Rattle.block.specs.View.{state_of}
-use Rattle.block.specs.declared.head.Head.{Head}
 use Rattle.block.proofs.AnnounceLaws.{key_here}
 use Rattle.block.proofs.LinkLaws.{neighbour-between}
-use Rattle.block.proofs.MissingLaws.{count-missing}
 use Rattle.block.specs.Found.{LinkOf, MissingOf}
 
 pub found-link : (s : State) (p : ℕ) (r : Result ℕ ℕ) → FoundIs (keys s.links) p r → LinkOf s p (result_ok r)
@@ -28,10 +25,6 @@ unfolding announcers hops_of
 found-missing s id (Ok i) up h =
     record { below = omega (arith, h.within, length-map s.missing (λ e. e.key)); key = key_here s id i h; same = ap hops_of (lookup-here id i (entry 0 []) s.missing (up_of (keys s.missing) up) h) }
 found-missing s id (Err i) up b = ap hops_of (lookup-between id i s.missing b)
-
-module _ (h : Head) (xs : List ℕ) (i : ℕ) where
-  pub missing-below : i < length (state_of h xs).missing → i < h.live.missing
-  missing-below q = omega (arith, count-missing h xs)
 
 -- whether a peer is the kept one
 pub kept-same : (o : Option ℕ) (p : ℕ) → option_eq eqb o (Some p) ≡ same_as p o

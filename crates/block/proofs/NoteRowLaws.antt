@@ -12,7 +12,6 @@ use Rattle.block.specs.View.{state_of, limits_of}
 use Rattle.block.specs.Sound.{Sound}
 use Rattle.block.specs.declared.head.Head.{Head}
 use Rattle.block.specs.declared.note.NoteTable.{NoteTable}
-use Rattle.block.proofs.LinkLaws.{count-links}
 use Rattle.block.proofs.NoteLaws.{count-queue, count-dropped, count-notes, number-there, note-link}
 
 pub map-at : (f : ℕ → ℕ) (xs : List ℕ) (i : ℕ) → i < length xs → get_or (map f xs) i 0 ≡ f (get_or xs i 0)
@@ -28,10 +27,10 @@ module _ (h : Head) (xs : List ℕ) where
   record-few sound = omega (arith, count-dropped h xs sound, sound.fit.within.dropped, sound.fit.ceilings.D)
 
   -- a column of link numbers
-  pub column_is : Sound h xs → (ns : List Note) (a n : ℕ) (numbers : List ℕ) → length numbers ≡ n → length ns ≡ n → ((i : ℕ) → i < n → get_or numbers i 0 ≡ get_or xs (a + i) 0)
-      → ((i : ℕ) → i < n → LinkIs h xs ns i (get_or xs (a + i) 0)) → Column (state_of h xs) ns numbers
-  column_is sound ns a n numbers e f g is = record {
-    below = All-from_get_or (λ (l : ℕ). l < length (state_of h xs).links) numbers 0 (λ i q. omega (arith, g i (omega (arith, q, e)), (is i (omega (arith, q, e))).below, count-links h xs));
+  column_is : (ns : List Note) (a n : ℕ) (numbers : List ℕ) → length numbers ≡ n → length ns ≡ n → ((i : ℕ) → i < n → get_or numbers i 0 ≡ get_or xs (a + i) 0)
+      → ((i : ℕ) → i < n → LinkIs (state_of h xs) ns i (get_or xs (a + i) 0)) → Column (state_of h xs) ns numbers
+  column_is ns a n numbers e f g is = record {
+    below = All-from_get_or (λ (l : ℕ). l < length (state_of h xs).links) numbers 0 (λ i q. omega (arith, g i (omega (arith, q, e)), (is i (omega (arith, q, e))).below));
     peers = ext_get_or 0 (map (λ (n : Note). n.peer) ns) (map (peer_at (state_of h xs)) numbers) (length-map ns (λ (n : Note). n.peer) ∙ f ∙ sym e ∙ sym (length-map numbers (peer_at (state_of h xs))))
         (λ i q. let b : i < n = omega (arith, q, length-map ns (λ (n : Note). n.peer), f) in get_or-map (λ (n : Note). n.peer) ns i (note 0 0 0) ∙ (is i b).peer ∙ ap (peer_at (state_of h xs)) (sym (g i b)) ∙ sym (map-at (peer_at (state_of h xs)) numbers i (omega (arith, b, e))));
   }
@@ -41,6 +40,6 @@ module _ (h : Head) (xs : List ℕ) where
       let n = count_of of h.live in
       let f : a + n ≤ length xs = omega (arith, number-there h xs sound of n (omega arith), e) in
       let l : length (take (a + n - a) (drop a xs)) ≡ n = length-take-le (a + n - a) (drop a xs) (omega (arith, length-drop a xs, f)) ∙ omega arith in
-      column_is sound (notes_of of (state_of h xs)) a n (take (a + n - a) (drop a xs)) l (count-notes h xs sound of)
+      column_is (notes_of of (state_of h xs)) a n (take (a + n - a) (drop a xs)) l (count-notes h xs sound of)
       (λ i q. get_or-take (a + n - a) (drop a xs) i 0 (omega (arith, q)) ∙ get_or-drop a xs i 0)
-      (λ i q. rw e (note-link h xs sound of i q))
+      (λ i q. rw e (note-link h xs sound of i (omega (arith, q, count-notes h xs sound of))))

@@ -15,26 +15,15 @@ use Rattle.protocol.specs.Links.{Mark, eager, Links, is_neighbour, quiet_in, mar
 use Rattle.protocol.specs.State.{State}
 use Rattle.block.specs.LinkSteps.{link_at, peer_at}
 use Rattle.block.specs.View.{state_of}
-use Rattle.block.specs.Sound.{Sound}
 use Rattle.block.specs.declared.head.Head.{Head}
 use Rattle.block.proofs.LinkLaws.{count-links}
-use Rattle.block.proofs.NoteLaws.{count-queue, count-dropped}
 use Rattle.block.specs.Panels.{state}
 use Rattle.block.specs.Views.{shown}
 use Rattle.block.specs.declared.panel.Panel.{Panel}
 use Rattle.block.specs.declared.panel.View.{View}
 
-module _ (h : Head) (xs : List ℕ) where
-  pub link-below : (i : ℕ) → i < length (state_of h xs).links → i < h.live.links
-  link-below i q = omega (arith, count-links h xs)
-
-  pub queue-room : Sound h xs → length (state_of h xs).queue < (state_of h xs).limits.Q → h.live.queued < h.limits.queued
-  unfolding state_of
-  queue-room sound q = omega (arith, count-queue h xs sound, q)
-
-  pub dropped-room : Sound h xs → length (state_of h xs).dropped < (state_of h xs).limits.D → h.live.dropped < h.limits.dropped
-  unfolding state_of
-  dropped-room sound q = omega (arith, count-dropped h xs sound, q)
+pub link-below : (h : Head) (xs : List ℕ) (i : ℕ) → i < length (state_of h xs).links → i < h.live.links
+link-below h xs i q = omega (arith, count-links h xs)
 
 -- the peer of a link
 pub link-key : (s : State) (i : ℕ) → peer_at s i ≡ (link_at s i).key

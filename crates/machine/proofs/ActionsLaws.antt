@@ -1,13 +1,13 @@
 -- The bytes of a call: those of a first event, then those of the step, of the state that a first event leaves.
 -- Assumes nothing.
-use Rattle.std.proofs.Common.{◌≡◌, ℕ, sym, ap, ◌∙◌, arith, List, [], ◌++◌, length}
+use Rattle.std.proofs.Common.{◌≡◌, ℕ, sym, ap, ◌∙◌, List, [], ◌++◌}
 use Rattle.storage.specs.Lists.Base.{concat_map}
 use Rattle.postcard.specs.Message.{action_bytes}
 use Rattle.protocol.specs.State.{State}
 use Rattle.protocol.specs.Run.{Room}
 use Rattle.decide.specs.Settled.{settled, settled_actions}
-use Rattle.wire.specs.Encode.Intake.{Intake, after, space_of, RoomFor}
-use Rattle.wire.proofs.EncodeLaws.IntakeLaws.{after_append, after_nil, room_after, length_both}
+use Rattle.wire.specs.Encode.Intake.{Intake, after}
+use Rattle.wire.proofs.EncodeLaws.IntakeLaws.{after_append, after_nil}
 use Rattle.steps.specs.Calls.{rooms_of}
 use Rattle.steps.specs.declared.call.Call.{Call}
 use Rattle.steps.proofs.ActionLaws.{actions-then}
@@ -29,15 +29,6 @@ module _ (call : Call) (r : Step) (s : State) where
   both-bytes =
       actions-then (settled_actions call.instant.0 s) (step_actions (rooms_of call s) call.instant.0 r (settled call.instant.0 s))
       ∙ ap (λ (rooms : List Room). first_bytes call.instant.0 s ++ concat_map action_bytes (step_actions rooms call.instant.0 r (settled call.instant.0 s))) (sym (settled-rooms call.instant.0 s call.peer call.rooms.now))
-
-  module _ (h : Intake) (room : RoomFor (event_bytes call r s) h) where
-    pub first-room : RoomFor (first_bytes call.instant.0 s) h
-    first-room = omega (arith, room, ap length both-bytes, length_both (first_bytes call.instant.0 s) (step_bytes call r (settled call.instant.0 s)))
-
-    -- the step's, by any equal list
-    pub step-room : (bs : List ℕ) (g : Intake) → step_bytes call r (settled call.instant.0 s) ≡ bs → g ≡ after (first_bytes call.instant.0 s) h → RoomFor bs g
-    step-room bs g e q =
-        omega (arith, room, ap length both-bytes, length_both (first_bytes call.instant.0 s) (step_bytes call r (settled call.instant.0 s)), ap length e, ap space_of q, room_after (first_bytes call.instant.0 s) h)
 
   pub step-done : (h g k : Intake) (bs : List ℕ) → step_bytes call r (settled call.instant.0 s) ≡ bs → g ≡ after (first_bytes call.instant.0 s) h → k ≡ after bs g → k ≡ after (event_bytes call r s) h
   step-done h g k bs e q p =

@@ -34,8 +34,7 @@ use Rattle.steps.specs.Shared.{sizes_value}
 use Rattle.block.specs.Views.{shown}
 use Rattle.steps.specs.declared.Sizes.{Sizes as CodeSizes}
 use Rattle.block.specs.declared.panel.View.{View}
-use Rattle.steps.proofs.AtRestLaws.{stands_of}
-use Rattle.steps.proofs.SettledLaws.FewLaws.{fit-down, stands-whole}
+use Rattle.steps.proofs.SettledLaws.FewLaws.{fit-down, rest-whole}
 use Rattle.machine.specs.Core.{is_payload, counted_as}
 use Rattle.machine.specs.Decided.{bytes_after, last_decided, size_fits, decided}
 use Rattle.decide.specs.Counted.{raised, counts_after_call}
@@ -56,21 +55,21 @@ raise-up round c h =
     λ k. record { payload = c.payload; control = c.control; hops = e k }
 
 -- what a view shows is whole, and its limits are the header's
-pub limits-of : (v : View) → (shown v).limits ≡ limits_of v.head.limits
+pub limits-of : (v : View) → (shown v).limits ≡ limits_of v.head.now.limits
 unfolding state_of
 limits-of v = refl
 
-pub max-of : (v : View) → (shown v).settings.max_message_size ≡ v.head.settings.max_message_size
+pub max-of : (v : View) → (shown v).settings.max_message_size ≡ v.head.now.settings.max_message_size
 unfolding state_of
 max-of v = refl
 
 pub shown-whole : (v : View) → AtRest (shown v) → whole (shown v) ≡ true
-shown-whole v rest = stands-whole v.head v.block.now (stands_of v.head v.block.now v.sound rest)
+shown-whole v rest = rest-whole v.head.now v.block.now v.sound rest
 
 -- (13) the test of the code, of a state with the same limits
-pub fitted : (v : View) (t : State) (z : CodeSizes) (b : Bool) → t.limits ≡ (shown v).limits → sizes_value z ≡ sizes_of t → b ≡ fit_sizes (limits_of v.head.limits) (sizes_value z) → b ≡ fits t
+pub fitted : (v : View) (t : State) (z : CodeSizes) (b : Bool) → t.limits ≡ (shown v).limits → sizes_value z ≡ sizes_of t → b ≡ fit_sizes (limits_of v.head.now.limits) (sizes_value z) → b ≡ fits t
 fitted v t z b same e f =
-    f ∙ ap (fit_sizes (limits_of v.head.limits)) e
+    f ∙ ap (fit_sizes (limits_of v.head.now.limits)) e
     ∙ ap (λ (l : Limits). fit_sizes l (sizes_of t)) (sym (same ∙ limits-of v))
     ∙ sym (fits-sizes t)
 
@@ -89,8 +88,8 @@ down_fits p v rest =
     let s = shown v in
     fits-sizes (forget_peer p s)
     ∙ ap (λ (l : Limits). fit_sizes l (sizes_of (forget_peer p s))) ((down-keeps p s).limits ∙ limits-of v)
-    ∙ ap (fit_sizes (limits_of v.head.limits)) (down-sized p s rest)
-    ∙ fit-down p v.head v.block.now v.sound
+    ∙ ap (fit_sizes (limits_of v.head.now.limits)) (down-sized p s rest)
+    ∙ fit-down p v.head.now v.block.now v.sound
 
 both : {A : Type 0} (x y z : A) (a b : Bool) → a ≡ true → b ≡ true → x ≡ (if a then if b then x else y else z)
 both x y z a b p q = rw (p, q) refl
@@ -111,9 +110,9 @@ module _ (rooms : List Room) (now p : ℕ) (s : State) (c : Counts) (output : �
 -- a message's counts
 pub counted-message : (m : Message) (c : Counts) → counted_as (is_payload m) c ≡ count_message (message_value m) c
 unfolding count_message
-counted-message (messages.Gossip id content d) c = refl
+counted-message (messages.Gossip g) c = refl
 counted-message messages.Prune c = refl
-counted-message (messages.Graft w r) c = refl
+counted-message (messages.Graft g) c = refl
 counted-message (messages.IHave ihaves) c = refl
 
 pub message-counted : (peer : ℕ) (m : Message) (c : Counts) → counted_as (is_payload m) c ≡ counted_for (Received peer (message_value m)) c

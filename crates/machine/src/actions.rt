@@ -10,13 +10,13 @@ use announcements::on_announce_dropped_timer::announce_actions;
 use announcements::on_dispatch_timer::dispatch_actions;
 use announcements::on_ihave::ihave_actions;
 use announcements::on_send_graft_timer::send_graft_actions;
+use block::panel::View;
 use payloads::broadcast::broadcast_actions;
 use payloads::on_gossip::{gossip_actions, neighbors_actions};
 use payloads::on_graft::graft_actions;
 use payloads::on_late_graft_reply::late_actions;
 use steps::call::Call;
 use steps::on_evict_cache_timer::{evict_actions, first_event_actions};
-use steps::view::View;
 use wire::encode::Encode;
 use wire::encode::sink::Sink;
 

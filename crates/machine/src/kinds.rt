@@ -13,11 +13,12 @@ ghost use Rattle.block.specs.Views.{shown};
 ghost use Rattle.machine.specs.Kinds.Meaning.{ListHeld, Means};
 
 use announcements::on_ihave::all_received;
+use block::panel::View;
 use payloads::on_gossip::NewMessage;
 use payloads::on_late_graft_reply::LateCopy;
 use postcard::message::{Delivery, Timer};
 use steps::call::Call;
-use steps::view::View;
+use steps::lookups::is_received_then;
 use storage::rows::id::Id;
 use wire::encode::message::Gossip;
 use wire::reader::ihaves::Ihaves;
@@ -59,7 +60,7 @@ fn gossip_step<'a>(view: &View, call: &Call, sender: u64, gossip: Gossip<'a>) ->
     if blake3::hash(content) != id {
         return Step::Nothing;
     }
-    if view.is_received_then(call.instant, id) {
+    if is_received_then(view, call.instant, id) {
         return Step::Late(LateCopy {
             sender,
             id,
@@ -95,23 +96,12 @@ pub fn message_step<'a>(view: &View, call: &Call, sender: u64, message: Message<
     ensures { Means call.now.instant.0 (shown view.now) result (Received sender (message_value message.entry)) }
 {
     match (message, view.find_link(sender)) {
-        (
-            Message::Gossip {
-                id,
-                content,
-                delivery,
-            },
-            _,
-        ) => {
-            let gossip = Gossip {
-                id,
-                content,
-                delivery,
-            };
-            gossip_step(view, call, sender, gossip)
-        }
+        (Message::Gossip(gossip), _) => gossip_step(view, call, sender, gossip),
         (Message::Prune, Some(link)) => Step::Prune { link },
-        (Message::Graft { wanted, .. }, Some(link)) => Step::Graft { link, wanted },
+        (Message::Graft(graft), Some(link)) => Step::Graft {
+            link,
+            wanted: graft.wanted,
+        },
         (Message::IHave(ihaves), Some(link)) => ihave_step(view, call, link, ihaves),
         (_, None) => Step::Nothing,
     }

@@ -21,10 +21,10 @@ use crate::step::step_sizes;
 use crate::{event, kinds};
 use block::head::Limits;
 use block::header;
+use block::panel::View;
 use steps::Sizes;
 use steps::call::Call;
 use steps::on_neighbor_up::up_sizes;
-use steps::view::View;
 use wire::reader::event::Event;
 
 // A limit, by its number in the order of the ceilings: N, R, C, B, G, S, T, Q, D.
@@ -143,9 +143,7 @@ pub fn limit_met(block: &[u8], asked: EventCall) -> Option<Limit>
         peer: event::event_peer(event),
         rooms: asked.rooms,
     };
-    let view = View {
-        head: header::load_head(block),
-        block,
-    };
+    let head = header::load_head(block);
+    let view = View { head: &head, block };
     event_limit(&view, &call, event)
 }

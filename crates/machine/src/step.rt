@@ -11,6 +11,7 @@ use announcements::on_announce_dropped_timer::{announce_sizes, on_announce_dropp
 use announcements::on_dispatch_timer::{dispatch_sizes, on_dispatch_timer};
 use announcements::on_ihave::{ihave_sizes, on_ihave};
 use announcements::on_send_graft_timer::{on_send_graft_timer, send_graft_sizes};
+use block::panel::{Panel, View};
 use payloads::broadcast::{broadcast, broadcast_sizes};
 use payloads::on_gossip::{gossip_sizes, on_gossip};
 use payloads::on_graft::{graft_sizes, on_graft};
@@ -18,9 +19,8 @@ use payloads::on_late_graft_reply::on_late_graft_reply;
 use payloads::on_prune::on_prune;
 use steps::Sizes;
 use steps::call::Call;
-use steps::on_evict_cache_timer::evict_sizes;
-use steps::panel::Panel;
-use steps::view::View;
+use steps::on_evict_cache_timer::{evict_sizes, first_event, on_evict_cache_timer};
+use steps::settled::sizes_then;
 
 // The numbers of entries after a first event's work and the step. Its time is that of the step's own function.
 pub fn step_sizes(view: &View, call: &Call, step: Step) -> Sizes
@@ -36,7 +36,7 @@ pub fn step_sizes(view: &View, call: &Call, step: Step) -> Sizes
         Step::DispatchLazyPush => dispatch_sizes(view, call),
         Step::EvictCache => evict_sizes(view, call),
         Step::AnnounceDropped => announce_sizes(view, call),
-        _ => view.sizes_then(call.instant),
+        _ => sizes_then(view, call.instant),
     }
 }
 
@@ -54,7 +54,7 @@ pub fn step_state(panel: &mut Panel, call: &Call, step: Step)
         Step::Broadcast { id, content } => broadcast(panel, call, id, content),
         Step::SendGraft(id) => on_send_graft_timer(panel, call, id),
         Step::DispatchLazyPush => on_dispatch_timer(panel, call),
-        Step::EvictCache => panel.on_evict_cache_timer(call),
+        Step::EvictCache => on_evict_cache_timer(panel, call),
         Step::AnnounceDropped => on_announce_dropped_timer(panel),
         _ => {}
     }
@@ -65,6 +65,6 @@ pub fn call_state(panel: &mut Panel, call: &Call, step: Step)
     requires { Due call.now step (state panel.old) }
     ensures { Goes (after_event call.now step.entry) panel.old panel.new }
 {
-    panel.first_event(call);
+    first_event(panel, call);
     step_state(panel, call, step);
 }

@@ -43,20 +43,16 @@ pub struct MessageText<'a>(pub Message<'a>);
 impl Display for MessageText<'_> {
     fn fmt<W: fmt::Write>(&self, f: &mut Formatter<W>) -> fmt::Result {
         match self.0 {
-            Message::Gossip {
-                id,
-                content,
-                delivery,
-            } => {
-                let id = IdText(id);
-                let content = ContentText(content);
-                let delivery = DeliveryText(delivery);
+            Message::Gossip(gossip) => {
+                let id = IdText(gossip.id);
+                let content = ContentText(gossip.content);
+                let delivery = DeliveryText(gossip.delivery);
                 write!(f, "Gossip {id} {content}, {delivery}")
             }
             Message::Prune => write!(f, "Prune"),
-            Message::Graft { wanted, round } => {
-                let hops = round.0;
-                match wanted {
+            Message::Graft(graft) => {
+                let hops = graft.round.0;
+                match graft.wanted {
                     Some(id) => {
                         let id = IdText(id);
                         write!(f, "Graft {id}, round {hops}")

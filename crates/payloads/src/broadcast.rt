@@ -12,14 +12,15 @@ ghost use Rattle.payloads.specs.Broadcast.{broadcast_bytes, after_broadcast};
 use crate::eager_push::notes::{note_back, to_note};
 use crate::eager_push::sends::eager_push;
 use crate::eager_push::target::Push;
+use block::panel::{Panel, View};
 use postcard::message::Delivery;
 use postcard::units::Round;
 use protocol::LATEST;
 use steps::Sizes;
 use steps::call::Call;
-use steps::panel::Panel;
+use steps::lazy_push::{lazy_count, lazy_push};
 use steps::schedule::schedule_dispatch;
-use steps::view::View;
+use steps::take_in::{take_in, taken_sizes};
 use storage::rows::id::Id;
 use wire::encode::message::Gossip;
 use wire::encode::sink::Sink;
@@ -53,8 +54,8 @@ pub fn broadcast_sizes(view: &View, call: &Call, id: Id, content: &[u8]) -> Size
         sender: me,
         skip: None,
     };
-    let mut sizes = view.taken_sizes(call, id, content);
-    sizes.queued += view.lazy_count(me);
+    let mut sizes = taken_sizes(view, call, id, content);
+    sizes.queued += lazy_count(view, me);
     sizes.dropped += to_note(view, call, &push, id).len();
     sizes
 }
@@ -70,7 +71,7 @@ pub fn broadcast(panel: &mut Panel, call: &Call, id: Id, content: &[u8])
         sender: me,
         skip: None,
     };
-    panel.take_in(call, id, content, Round(0));
-    panel.lazy_push(id, Round(0), me);
+    take_in(panel, call, id, content, Round(0));
+    lazy_push(panel, id, Round(0), me);
     note_back(panel, call, &push, id, Round(0));
 }

@@ -13,14 +13,17 @@ use crate::eager_push::notes::{note_back, to_note};
 use crate::eager_push::sends::eager_push;
 use crate::eager_push::target::Push;
 use crate::optimize_tree::{Arrival, close, optimize_actions};
+use block::panel::{Panel, View};
 use postcard::message::Delivery;
 use postcard::units::Round;
 use protocol::{LAST_ROUND, LATEST};
 use steps::Sizes;
 use steps::call::Call;
-use steps::panel::Panel;
+use steps::lazy_push::{lazy_count, lazy_push};
+use steps::lookups::grafted_entry_then;
 use steps::schedule::schedule_dispatch;
-use steps::view::View;
+use steps::set_first::set_first;
+use steps::take_in::{take_in, taken_sizes};
 use storage::rows::id::Id;
 use wire::encode::Encode;
 use wire::encode::action::Emit;
@@ -60,9 +63,9 @@ pub fn gossip_sizes(view: &View, call: &Call, message: &NewMessage) -> Sizes
         content,
         ..
     } = *message;
-    let skip = view.grafted_entry_then(call.instant, id);
-    let mut sizes = view.taken_sizes(call, id, content);
-    sizes.queued += view.lazy_count(sender);
+    let skip = grafted_entry_then(view, call.instant, id);
+    let mut sizes = taken_sizes(view, call, id, content);
+    sizes.queued += lazy_count(view, sender);
     sizes.dropped += to_note(view, call, &Push { sender, skip }, id).len();
     sizes.missing -= view.is_missing(id) as usize;
     sizes.timers -= view.has_timer(id) as usize;
@@ -82,7 +85,7 @@ pub fn gossip_actions<S: Sink>(view: &View, call: &Call, out: &mut S, message: &
     } = *message;
     let push = Push {
         sender,
-        skip: view.grafted_entry_then(call.instant, id),
+        skip: grafted_entry_then(view, call.instant, id),
     };
     let pushed = Gossip {
         id,
@@ -115,10 +118,10 @@ pub fn on_gossip(panel: &mut Panel, call: &Call, message: &NewMessage)
         round,
     } = *message;
     let next = Round(round.0 + 1);
-    panel.take_in(call, id, content, next);
-    panel.set_first(call, id, sender, round);
-    let skip = panel.view().grafted_entry_then(call.instant, id);
+    take_in(panel, call, id, content, next);
+    set_first(panel, call, id, sender, round);
+    let skip = grafted_entry_then(&panel.view(), call.instant, id);
     note_back(panel, call, &Push { sender, skip }, id, next);
-    panel.lazy_push(id, next, sender);
+    lazy_push(panel, id, next, sender);
     close(panel, call, sender, id, round);
 }

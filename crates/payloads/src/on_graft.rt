@@ -9,13 +9,14 @@ ghost use Rattle.block.specs.Views.{shown};
 ghost use Rattle.block.specs.Panels.{state, Goes, AtRest, Allowed};
 ghost use Rattle.payloads.specs.OnGraft.{after_graft, graft_bytes};
 
+use block::panel::{Panel, View};
 use postcard::message::Delivery;
 use steps::Sizes;
 use steps::call::Call;
-use steps::message_cache::{cached_round, cached_then};
-use steps::panel::Panel;
+use steps::message_cache::cached_then;
+use steps::note_dropped::{note_dropped, takes_note};
 use steps::schedule::schedule_announce_dropped;
-use steps::view::View;
+use steps::settled::sizes_then;
 use storage::rows::id::Id;
 use wire::encode::Encode;
 use wire::encode::action::Send;
@@ -37,7 +38,7 @@ fn graft_notes(view: &View, call: &Call, link: usize, wanted: Option<Id>) -> usi
     if call.rooms.takes(link) {
         return 0;
     }
-    if view.takes_note(link, id) { 1 } else { 0 }
+    if takes_note(view, link, id) { 1 } else { 0 }
 }
 
 // The numbers of entries after it (question 13).
@@ -45,7 +46,7 @@ pub fn graft_sizes(view: &View, call: &Call, link: usize, wanted: Option<Id>) ->
     requires { AtRest (shown view.now) × (link < length (shown view.now).links) }
     ensures { sizes_value result ≡ sizes_of (after_graft call.now link wanted (settled call.now.instant.0 (shown view.now))) }
 {
-    let mut sizes = view.sizes_then(call.instant);
+    let mut sizes = sizes_then(view, call.instant);
     sizes.dropped += graft_notes(view, call, link, wanted);
     sizes
 }
@@ -92,10 +93,10 @@ pub fn on_graft(panel: &mut Panel, call: &Call, link: usize, wanted: Option<Id>)
     let Some(id) = wanted else {
         return;
     };
-    let Some(round) = cached_round(&panel.view(), id) else {
+    let Some(round) = panel.view().round_of_cached(id) else {
         return;
     };
     if !call.rooms.takes(link) {
-        panel.note_dropped(link, id, round);
+        note_dropped(panel, link, id, round);
     }
 }

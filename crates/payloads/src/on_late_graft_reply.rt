@@ -17,12 +17,12 @@ ghost use Rattle.block.specs.Views.{shown};
 ghost use Rattle.block.specs.Panels.{state, Goes, AtRest};
 ghost use Rattle.payloads.specs.OnLateGraftReply.{copy_kind, LateIs, late_bytes, after_late};
 
+use block::caches::grafted::FirstCopy;
+use block::panel::{Panel, View};
 use postcard::message::Delivery;
 use postcard::units::Round;
 use steps::call::Call;
-use steps::grafts::reads::FirstCopy;
-use steps::panel::Panel;
-use steps::view::View;
+use steps::lookups::grafted_entry_then;
 use storage::rows::id::Id;
 use wire::encode::Encode;
 use wire::encode::action::Send;
@@ -79,7 +79,7 @@ fn late_kind(view: &View, call: &Call, copy: LateCopy) -> Late
     requires { AtRest (shown view.now) }
     ensures { LateIs (shown view.now) (id_of copy.id) (get (id_of copy.id) (settled call.now.instant.0 (shown view.now)).grafted) (copy_kind copy (settled call.now.instant.0 (shown view.now))) result }
 {
-    let Some(entry) = view.grafted_entry_then(call.instant, copy.id) else {
+    let Some(entry) = grafted_entry_then(view, call.instant, copy.id) else {
         return Late::Duplicate;
     };
     let Some(first) = view.first_copy(entry) else {

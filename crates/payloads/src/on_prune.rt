@@ -6,7 +6,7 @@ ghost use Rattle.protocol.specs.Links.{add_lazy};
 ghost use Rattle.block.specs.LinkSteps.{peer_at, linked};
 ghost use Rattle.block.specs.Panels.{state, Goes};
 
-use steps::panel::Panel;
+use block::panel::Panel;
 
 // The sender goes lazy.
 pub fn on_prune(panel: &mut Panel, link: usize)

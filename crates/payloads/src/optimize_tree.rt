@@ -15,11 +15,11 @@ ghost use Rattle.payloads.specs.OptimizeTree.{least_of, nearest, NearestOf, want
 
 use block::head::MAX_LINKS;
 use block::hops::Hop;
+use block::panel::{Panel, View};
 use postcard::units::Round;
 use protocol::LAST_ROUND;
 use steps::call::Call;
-use steps::panel::Panel;
-use steps::view::View;
+use steps::graft_out::graft_out_then;
 use storage::rows::id::Id;
 use wire::encode::Encode;
 use wire::encode::action::Send;
@@ -78,7 +78,7 @@ fn optimized_sender(view: &View, call: &Call, arrival: Arrival) -> Option<usize>
     ensures { LinkIf (shown view.now) arrival.sender (wanted (id_of arrival.id) arrival.sender arrival.round.0 (settled call.now.instant.0 (shown view.now))) result }
 {
     let sender = view.find_link(arrival.sender)?;
-    if view.graft_out_then(call, sender, arrival.id, arrival.round) {
+    if graft_out_then(view, call, sender, arrival.id, arrival.round) {
         return None;
     }
     Some(sender)
@@ -154,7 +154,7 @@ fn optimize_tree(panel: &mut Panel, shortcut: Shortcut)
     requires { (ascending (keys (state panel.old).links) ≡ true) × (shortcut.sender < length (state panel.old).links) × (shortcut.announcer.link < length (state panel.old).links) }
     ensures { Goes (after_shortcut shortcut) panel.old panel.new }
 {
-    if !panel.eager_at(shortcut.announcer.link) {
+    if !panel.view().link(shortcut.announcer.link).eager {
         panel.add_eager(shortcut.announcer.link);
     }
     panel.add_lazy(shortcut.sender);

@@ -62,23 +62,19 @@ fn announcement(rt: &impl Print, a: Ihave) {
 
 fn message(rt: &impl Print, m: Message) {
     match m {
-        Message::Gossip {
-            id,
-            content: c,
-            delivery: d,
-        } => {
+        Message::Gossip(gossip) => {
             word(rt, b"Gossip ");
-            identifier(rt, id);
+            identifier(rt, gossip.id);
             word(rt, b" ");
-            content(rt, c);
-            delivery(rt, d);
+            content(rt, gossip.content);
+            delivery(rt, gossip.delivery);
         }
         Message::Prune => word(rt, b"Prune"),
-        Message::Graft { wanted: w, round } => {
+        Message::Graft(graft) => {
             word(rt, b"Graft ");
-            wanted(rt, w);
+            wanted(rt, graft.wanted);
             word(rt, b" ");
-            number(rt, round.0 as u64);
+            number(rt, graft.round.0 as u64);
         }
         Message::IHave(ihaves) => {
             word(rt, b"IHave");

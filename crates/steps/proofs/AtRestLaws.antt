@@ -3,23 +3,32 @@
 use Rattle.std.proofs.Common.{◌≡◌, ℕ, ◌<◌, length, refl, sym, ap, ◌∙◌, arith, Bool, true, false, List, if◌then◌else◌}
 use Rattle.storage.specs.Lists.Base.{ascending}
 use Rattle.storage.specs.Lists.Map.{keys}
-use Rattle.time_cache.specs.TimeCache.{later_cache}
+use Rattle.time_cache.specs.TimeCache.{Cache, Timely, later_cache}
 use Rattle.protocol.specs.Links.{Links}
 use Rattle.protocol.specs.State.{State, with_init, with_received, with_grafted, with_cache}
 use Rattle.decide.specs.Settled.{settled}
-use Rattle.block.specs.View.{state_of}
-use Rattle.block.specs.Sound.{Sound}
+use Rattle.block.specs.Caches.InBlock.{InOrder}
+use Rattle.block.specs.Caches.GraftSteps.{Grafting}
 use Rattle.block.specs.LinkSteps.{peer_at}
-use Rattle.block.specs.declared.head.Head.{Head}
-use Rattle.steps.specs.Stands.{Stands}
 use Rattle.block.specs.Panels.{AtRest}
 use Rattle.steps.specs.Record.{takes_note}
 
-pub stands_of : (h : Head) (xs : List ℕ) → Sound h xs → AtRest (state_of h xs) → Stands h xs
-stands_of h xs s r = record { sound = s; consistent = r.consistent; ranged = r.ranged }
+-- what the functions of the tables ask
+pub in_order : {A : Type 0} (c : Cache A) → Timely c → InOrder c
+in_order c t = record { up = t.up; order = t.order }
 
-pub rest_of : (h : Head) (xs : List ℕ) → Stands h xs → AtRest (state_of h xs)
-rest_of h xs s = record { consistent = s.consistent; ranged = s.ranged }
+module _ (s : State) (r : AtRest s) where
+  pub received-order : InOrder s.received
+  received-order = in_order s.received r.consistent.core.received_on
+
+  pub cached-order : InOrder s.cache
+  cached-order = in_order s.cache r.consistent.core.cache_on
+
+  pub grafted-order : InOrder s.grafted
+  grafted-order = in_order s.grafted r.consistent.core.grafted_on
+
+  pub grafting : Grafting s
+  grafting = record { links_up = r.consistent.core.links_up; order = grafted-order; whole = r.consistent.core.grafting }
 
 -- a first event's eviction changes the three time caches and `init` alone
 pub settled-as : {A : Type 0} (now : ℕ) (s : State) (f : State → A)

@@ -1,14 +1,14 @@
 -- What an eviction tells, one identifier after the other.
 -- Assumes nothing.
-use Rattle.std.proofs.Common.{◌≡◌, false, not, refl, ℕ, ◌+◌, ◌<◌, ◌≤◌, List, [], ◌∷◌, ◌++◌, map, length, length-append, get_or, drop, sym, ap, ◌∙◌, arith, add-one}
+use Rattle.std.proofs.Common.{◌≡◌, false, not, refl, ℕ, ◌+◌, ◌<◌, ◌≤◌, List, [], ◌∷◌, ◌++◌, map, length, get_or, drop, sym, ap, ◌∙◌, add-one}
 use Rattle.std.proofs.lemmas.List.{drop_all}
 use Rattle.std.proofs.Math.Seq.{drop-cons}
 use Rattle.storage.specs.Lists.Base.{concat_map, is_empty}
 use Rattle.time_cache.specs.TimeCache.{due, expired_keys}
 use Rattle.time_cache.proofs.PassedLaws.{none-due}
 use Rattle.postcard.specs.Message.{Forgotten, action_bytes}
-use Rattle.wire.specs.Encode.Intake.{Intake, after, RoomFor}
-use Rattle.wire.proofs.EncodeLaws.IntakeLaws.{after_append, after_nil, room_after}
+use Rattle.wire.specs.Encode.Intake.{Intake, after}
+use Rattle.wire.proofs.EncodeLaws.IntakeLaws.{after_append, after_nil}
 use Rattle.protocol.specs.State.{State}
 use Rattle.block.specs.View.{state_of}
 use Rattle.block.specs.Caches.CachedReads.{row_id}
@@ -44,18 +44,12 @@ module _ (h : Head) (block rows : List ℕ) where
         ap (λ (l : List ℕ). concat_map action_bytes (map (λ k. Forgotten k) (map (row_id h block) l))) (drop-cons rows i 0 q ∙ ap (λ (n : ℕ). get_or rows i 0 ∷ drop n rows) (sym (add-one i)))
         ∙ ap (λ (k : ℕ). action_bytes (Forgotten k) ++ told_from (i + 1)) (sym e)
 
-    pub row-room : (x : Intake) → RoomFor (told_from i) x → RoomFor (action_bytes (Forgotten id)) x
-    row-room x r = omega (arith, r, ap length first, length-append (action_bytes (Forgotten id)) (told_from (i + 1)))
-
     pub row-same : (x y z : Intake) → after (told_from i) x ≡ z → y ≡ after (action_bytes (Forgotten id)) x → after (told_from (i + 1)) y ≡ z
     row-same x y z s f =
         ap (after (told_from (i + 1))) f
         ∙ after_append (action_bytes (Forgotten id)) (told_from (i + 1)) x
         ∙ ap (λ (l : List ℕ). after l x) (sym first)
         ∙ s
-
-    pub row-left : (x y : Intake) → RoomFor (told_from i) x → y ≡ after (action_bytes (Forgotten id)) x → RoomFor (told_from (i + 1)) y
-    row-left x y r f = rw f (rw (room_after (action_bytes (Forgotten id)) x) (omega (arith, r, ap length first, length-append (action_bytes (Forgotten id)) (told_from (i + 1)))))
 
   -- all were told
   pub rows-done : (i : ℕ) → length rows ≤ i → (x z : Intake) → after (told_from i) x ≡ z → x ≡ z
@@ -74,11 +68,5 @@ module _ (now : ℕ) (s : State) where
   evict-bytes = actions-then (forgotten_actions now s) (scheduled now s ∷ []) ∙ ap (λ (l : List ℕ). told ++ l) (one-action (scheduled now s))
 
   -- what is told, and the schedule behind it
-  pub told-room : (x : Intake) → RoomFor (concat_map action_bytes (evict_actions now s)) x → RoomFor told x
-  told-room x r = omega (arith, r, ap length evict-bytes, length-append told rest)
-
-  pub rest-room : (x y : Intake) → RoomFor (concat_map action_bytes (evict_actions now s)) x → y ≡ after told x → RoomFor rest y
-  rest-room x y r f = rw f (rw (room_after told x) (omega (arith, r, ap length evict-bytes, length-append told rest)))
-
   pub told-then : (x y z : Intake) → y ≡ after told x → z ≡ after rest y → z ≡ after (concat_map action_bytes (evict_actions now s)) x
   told-then x y z f g = g ∙ ap (after rest) f ∙ after_append told rest x ∙ ap (λ (l : List ℕ). after l x) (sym evict-bytes)

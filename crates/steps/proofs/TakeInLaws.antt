@@ -19,17 +19,11 @@ use Rattle.decide.proofs.Broadcast.{content-put}
 use Rattle.decide.proofs.GraftSendGraft.{length-put, expiry-put}
 use Rattle.decide.proofs.SettledLaws.{evicted}
 use Rattle.protocol.specs.Ticks.{evict}
-use Rattle.block.specs.View.{state_of}
-use Rattle.block.specs.Sound.{Sound}
-use Rattle.block.specs.declared.head.Head.{Head}
 use Rattle.block.specs.Panels.{AtRest}
 use Rattle.steps.specs.Shared.{sizes_value}
 use Rattle.steps.specs.TakeIn.{Takes}
-use Rattle.steps.specs.Taking.{TakesIn}
 use Rattle.steps.specs.declared.Sizes.{Sizes as CodeSizes}
-use Rattle.steps.proofs.AtRestLaws.{stands_of}
 use Rattle.steps.proofs.StandsAfter.{Kept, kept-first, kept-taken}
-use Rattle.steps.proofs.Takings.{at_most}
 
 -- a key is there where a value is found
 module _ {A : Type 0} (k : ℕ) (c : Cache A) where
@@ -150,17 +144,6 @@ module _ (now id : ℕ) (content : List ℕ) (round : ℕ) (s : State) (rest : A
 pub old-least : (id : ℕ) (v : Cached) (s : State) (z : CodeSizes) → sizes_value z ≡ sizes_of s → Some v ≡ get id s.cache → length v.content ≤ z.contents
 unfolding sizes_of content_held get
 old-least id v s z e g = omega (arith, found-length id v s.cache.entries (sym g), ap (λ (y : Sizes). y.content) e)
-
--- of a header and a block
-pub takes-in : (now id : ℕ) (content : List ℕ) (round : ℕ) (h : Head) (xs : List ℕ) → Sound h xs → Takes now id content round (state_of h xs) → TakesIn now id content round h xs
-unfolding taken_state content_held state_of
-takes-in now id content round h xs sound t = record {
-  stands = stands_of h xs sound t.rest;
-  early = t.early;
-  received = at_most h.limits.received _ t.received;
-  cached = at_most h.limits.cached _ t.cached;
-  bytes = t.bytes;
-}
 
 -- a later state with these caches and limits, which is within every limit
 pub takes-later : (now id : ℕ) (content : List ℕ) (round : ℕ) (s z : State) → AtRest s → now ≤ 2 ^ 62 → fits z ≡ true → z.limits ≡ s.limits

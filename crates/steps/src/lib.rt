@@ -1,35 +1,22 @@
 // What the functions of a call share.
 #![tactic(auto)]
 
-pub mod announcers;
 pub mod call;
-pub mod contents;
-pub mod dropped;
-pub mod find_link;
-pub mod grafted;
-pub mod grafted_peers;
-pub mod grafts;
+pub mod graft_out;
 pub mod groups;
 pub mod lazy_push;
 pub mod lookups;
 pub mod message_cache;
-pub mod message_caches;
-pub mod missing;
-pub mod neighbours;
 pub mod note_dropped;
+pub mod note_graft;
 pub mod note_these;
 pub mod on_evict_cache_timer;
 pub mod on_neighbor_down;
 pub mod on_neighbor_up;
-pub mod panel;
-pub mod queue;
-pub mod record;
 pub mod schedule;
 pub mod set_first;
 pub mod settled;
 pub mod take_in;
-pub mod timers;
-pub mod view;
 
 // The numbers of entries that question 13 looks at, in the specification's order: links, received, cached with the bytes of its contents, grafted, missing, graft timers, queue, record.
 #[derive(Clone, Copy)]

@@ -6,20 +6,18 @@ ghost use Rattle.protocol.specs.Ticks.{evict};
 ghost use Rattle.decide.specs.Sizes.{sizes_of};
 ghost use Rattle.decide.specs.Settled.{settled, forgotten_actions, settled_actions};
 ghost use Rattle.decide.specs.ActionsAfter.{evict_actions};
+ghost use Rattle.decide.specs.StateAfter.{first_state};
 ghost use Rattle.block.specs.Caches.InBlock.{InOrder};
 ghost use Rattle.wire.specs.Encode.Intake.{after};
 ghost use Rattle.steps.specs.Shared.{sizes_value};
 ghost use Rattle.block.specs.Panels.{AtRest};
 ghost use Rattle.block.specs.Views.{shown};
 
+use crate::Sizes;
 use crate::call::Call;
-use crate::contents::cached;
-use crate::panel::Panel;
 use crate::schedule::schedule_evict_cache;
-use crate::view::View;
-use crate::{Sizes, settled};
-use block::caches::cached::{forgotten_rows, is_any_due, row_id};
-use block::caches::{grafted, received};
+use crate::settled::later_sizes;
+use block::panel::{Panel, View};
 use wire::encode::Encode;
 use wire::encode::action::Forget;
 use wire::encode::sink::Sink;
@@ -30,7 +28,7 @@ pub fn evict_sizes(view: &View, call: &Call) -> Sizes
     requires { AtRest (shown view.now) }
     ensures { sizes_value result ≡ sizes_of (evict call.now.instant.0 (settled call.now.instant.0 (shown view.now))) }
 {
-    settled::later_sizes(view.head, view.block, call.instant)
+    later_sizes(view, call.instant)
 }
 
 // "action 4 with the identifier for each one from the message cache", in order of removal. It is never inlined: an eviction of nothing is not to clear the places for rows.
@@ -39,9 +37,9 @@ fn tell_rows<S: Sink>(view: &View, call: &Call, out: &mut S)
     requires order { InOrder (shown view.now).cache }
     ensures { S.intake out.new ≡ after (concat_map action_bytes (forgotten_actions call.now.instant.0 (shown view.now))) (S.intake out.old) }
 {
-    let rows = forgotten_rows(view.head, view.block, call.instant);
+    let rows = view.forgotten_rows(call.instant);
     for row in rows.as_slice() {
-        let id = row_id(view.head, view.block, *row as usize);
+        let id = view.row_id(*row as usize);
         Forget { id }.encode(out);
     }
 }
@@ -51,7 +49,7 @@ fn tell_forgotten<S: Sink>(view: &View, call: &Call, out: &mut S)
     requires order { InOrder (shown view.now).cache }
     ensures { S.intake out.new ≡ after (concat_map action_bytes (forgotten_actions call.now.instant.0 (shown view.now))) (S.intake out.old) }
 {
-    if is_any_due(view.head, view.block, call.instant) {
+    if view.is_any_due(call.instant) {
         tell_rows(view, call, out);
     }
 }
@@ -87,68 +85,27 @@ pub fn first_event_actions<S: Sink>(view: &View, call: &Call, out: &mut S)
     }
 }
 
-impl<'a> Panel<'a> {
-    ghost use Rattle.std.specs.Prelude.{true};
-    ghost use Rattle.protocol.specs.Ticks.{evict};
-    ghost use Rattle.protocol.specs.State.{with_init};
-    ghost use Rattle.decide.specs.StateAfter.{first_state};
-    ghost use Rattle.block.specs.Caches.InBlock.{InOrder, received_left, grafted_left};
-    ghost use Rattle.block.specs.Contents.CacheSteps.{cached_left};
-    ghost use Rattle.block.specs.Panels.{state, Goes, AtRest};
+// The step: "EvictCache expires message cache, received and grafted, in that order". Its time is that of three searches by halving where nothing is due, and else that
+// of one pass over the tables in which something is.
+pub fn on_evict_cache_timer(panel: &mut Panel, call: &Call)
+    requires { AtRest (state panel.old) }
+    ensures { Goes (evict call.now.instant.0) panel.old panel.new }
+{
+    panel.expire_cached(call.instant);
+    panel.expire_received(call.instant);
+    panel.expire_grafted(call.instant);
+}
 
-    // `expire_until` of the message cache: "pops entries with time ≤ the instant".
-    fn expire_cached(&mut self, call: &Call)
-        requires { InOrder (state self.old).cache }
-        ensures { Goes (cached_left call.now.instant.0) self.old self.new }
-    {
-        self.head = cached::expire_cached(self.head, self.block, call.instant);
+// "the first other event evicts and schedules EvictCache before anything else": the eviction, and the mark that it was. What question 5 was answered yes for stays so.
+// Its time is that of `on_evict_cache_timer`.
+pub fn first_event(panel: &mut Panel, call: &Call)
+    requires { AtRest (state panel.old) }
+    ensures goes { Goes (first_state call.now.instant.0) panel.old panel.new }
+    ensures rest { AtRest (state panel.new) }
+{
+    if panel.head.live.init {
+        return;
     }
-
-    // `expire_until` of the received messages.
-    fn expire_received(&mut self, call: &Call)
-        requires { InOrder (state self.old).received }
-        ensures { Goes (received_left call.now.instant.0) self.old self.new }
-    {
-        self.head = received::expire_received(self.head, self.block, call.instant);
-    }
-
-    // `expire_until` of the grafted messages.
-    fn expire_grafted(&mut self, call: &Call)
-        requires { InOrder (state self.old).grafted }
-        ensures { Goes (grafted_left call.now.instant.0) self.old self.new }
-    {
-        self.head = grafted::expire_grafted(self.head, self.block, call.instant);
-    }
-
-    // `init`: a first event's work is done.
-    fn flag_init(&mut self)
-        ensures { Goes (with_init true) self.old self.new }
-    {
-        self.head.live.init = true;
-    }
-
-    // The step: "EvictCache expires message cache, received and grafted, in that order". Its time is that of three searches by halving where nothing is due, and else that
-    // of one pass over the tables in which something is.
-    pub fn on_evict_cache_timer(&mut self, call: &Call)
-        requires { AtRest (state self.old) }
-        ensures { Goes (evict call.now.instant.0) self.old self.new }
-    {
-        self.expire_cached(call);
-        self.expire_received(call);
-        self.expire_grafted(call);
-    }
-
-    // "the first other event evicts and schedules EvictCache before anything else": the eviction, and the mark that it was. What question 5 was answered yes for stays so.
-    // Its time is that of `on_evict_cache_timer`.
-    pub fn first_event(&mut self, call: &Call)
-        requires { AtRest (state self.old) }
-        ensures goes { Goes (first_state call.now.instant.0) self.old self.new }
-        ensures rest { AtRest (state self.new) }
-    {
-        if self.head.live.init {
-            return;
-        }
-        self.on_evict_cache_timer(call);
-        self.flag_init();
-    }
+    on_evict_cache_timer(panel, call);
+    panel.flag_init();
 }

@@ -7,7 +7,7 @@ ghost use Rattle.decide.specs.ActionsAfter.{dispatch_action};
 ghost use Rattle.block.specs.Views.{shown};
 ghost use Rattle.wire.specs.Encode.Intake.{after};
 
-use crate::view::View;
+use block::panel::View;
 use postcard::message::Timer;
 use protocol::ANNOUNCE_DROPPED_INTERVAL;
 use wire::encode::Encode;

@@ -1,52 +1,52 @@
 // What a first event finds once it has evicted, read from the block as it stands before: the specification, "the first other event evicts and schedules EvictCache
 // before anything else". Where `init` is set, nothing is evicted.
-ghost use Rattle.std.specs.Prelude.{◌≡◌, ◌&&◌, ◌*◌, ◌≤◌, ◌<◌, leb, get_or};
+ghost use Rattle.std.specs.Prelude.{◌≡◌, ◌&&◌, ◌*◌, ◌≤◌, ◌<◌, leb, length, get_or};
 ghost use Rattle.storage.specs.Lists.Base.{sum};
 ghost use Rattle.storage.specs.Lists.Map.{Entry};
 ghost use Rattle.storage.specs.Rows.Ident.{id_of};
 ghost use Rattle.time_cache.specs.TimeCache.{Timed, holds, get};
 ghost use Rattle.time_cache.specs.Tables.{cache_at, Lies, Sound as SoundCache};
-ghost use Rattle.block.specs.View.{state_of, limits_of};
+ghost use Rattle.block.specs.View.{limits_of};
 ghost use Rattle.block.specs.Fit.{Ceilings};
-ghost use Rattle.block.specs.Sound.{Sound};
 ghost use Rattle.block.specs.Caches.InBlock.{InOrder};
+ghost use Rattle.block.specs.Panels.{AtRest};
+ghost use Rattle.block.specs.Views.{shown};
 ghost use Rattle.protocol.specs.Ticks.{evict};
 ghost use Rattle.decide.specs.Sizes.{sizes_of, fit_sizes};
 ghost use Rattle.decide.specs.Settled.{settled};
-ghost use Rattle.steps.specs.Stands.{Stands};
 ghost use Rattle.steps.specs.Shared.{EntryIs, sizes_value};
 ghost use Rattle.steps.specs.Settled.Then.{no_held, no_cached, left_then, later_bytes};
 
 use crate::Sizes;
-use block::caches::cached;
 use block::caches::cached::MessageCache;
 use block::caches::grafted::GraftedMessages;
 use block::caches::received::ReceivedMessages;
-use block::head::{Head, Limits};
+use block::head::Limits;
+use block::panel::View;
 use block::time_caches::PanelCache;
 use postcard::units::Millis;
 use storage::rows::id::Id;
 use time_cache::cache::TimeBoundCache;
 
-// Whether a time cache has an entry of an identifier then. It may be compiled in place, for `View::is_cached_then`.
+// Whether a time cache has an entry of an identifier then. It may be compiled in place, for `is_cached_then`.
 #[inline]
-pub fn contains_then<C: PanelCache>(head: Head, block: &[u8], instant: Millis, id: Id) -> bool
-    requires { Sound head block.now × InOrder (C.of (state_of head block.now)) }
-    ensures { result ≡ holds (id_of id) (left_then head.live.init instant.0 (C.of (state_of head block.now))) }
+pub fn contains_then<C: PanelCache>(view: &View, instant: Millis, id: Id) -> bool
+    requires { InOrder (C.of (shown view.now)) }
+    ensures { result ≡ holds (id_of id) (left_then view.now.head.now.live.init instant.0 (C.of (shown view.now))) }
 {
-    if head.live.init {
-        return C::contains_key(head, block, id);
+    if view.head.live.init {
+        return C::contains_key(view, id);
     }
-    C::contains_later(head, block, id, instant)
+    C::contains_later(view, id, instant)
 }
 
 // When the cached message i expires: the time of the row that its entry names.
-fn cached_expires(head: Head, block: &[u8], i: usize) -> Millis
-    requires { Stands head block.now × (i < head.live.cached) }
-    ensures { result.0 ≡ (get_or (state_of head block.now).cache.entries i no_cached).value.expires }
+fn cached_expires(view: &View, i: usize) -> Millis
+    requires { AtRest (shown view.now) × (i < length (shown view.now).cache.entries) }
+    ensures { result.0 ≡ (get_or (shown view.now).cache.entries i no_cached).value.expires }
 {
-    let cache = MessageCache::table(head);
-    cache.expires(block, cache.place(block, i))
+    let cache = MessageCache::table(view.head);
+    cache.expires(view.block, cache.place(view.block, i))
 }
 
 // The entry of a key that is there then, by its number in the cache as it stands.
@@ -73,63 +73,69 @@ fn held_then(
 
 // The entry of an identifier, if it is there then, by its number in the cache as it stands.
 #[tactic(auto, using(crate::proofs::SettledLaws::ThenLaws::held_as))]
-pub fn find_then<C: PanelCache>(head: Head, block: &[u8], instant: Millis, id: Id) -> Option<usize>
-    requires { Sound head block.now × InOrder (C.of (state_of head block.now)) }
-    ensures { (d : Entry (Timed C.Value)) → EntryIs d (C.of (state_of head block.now)).entries (id_of id) (get (id_of id) (left_then head.live.init instant.0 (C.of (state_of head block.now)))) result }
+pub fn find_then<C: PanelCache>(view: &View, instant: Millis, id: Id) -> Option<usize>
+    requires { InOrder (C.of (shown view.now)) }
+    ensures { (d : Entry (Timed C.Value)) → EntryIs d (C.of (shown view.now)).entries (id_of id) (get (id_of id) (left_then view.now.head.now.live.init instant.0 (C.of (shown view.now)))) result }
 {
-    held_then(C::table(head), block, head.live.init, instant, id)
+    held_then(
+        C::table(view.head),
+        view.block,
+        view.head.live.init,
+        instant,
+        id,
+    )
 }
 
 // The numbers of entries as they stand.
-pub fn sizes_now(head: Head, block: &[u8]) -> Sizes
-    requires { Stands head block.now }
-    ensures { sizes_value result ≡ sizes_of (state_of head block.now) }
+pub fn sizes_now(view: &View) -> Sizes
+    requires { AtRest (shown view.now) }
+    ensures { sizes_value result ≡ sizes_of (shown view.now) }
 {
     Sizes {
-        links: head.live.links,
-        received: head.live.received,
-        received_rows: head.live.received_rows,
-        cached: head.live.cached,
-        cached_rows: head.live.cached_rows,
-        contents: head.live.contents,
-        grafted: head.live.grafted,
-        grafted_rows: head.live.grafted_rows,
-        missing: head.live.missing,
-        timers: head.live.timers,
-        queued: head.live.queued,
-        dropped: head.live.dropped,
+        links: view.head.live.links,
+        received: view.head.live.received,
+        received_rows: view.head.live.received_rows,
+        cached: view.head.live.cached,
+        cached_rows: view.head.live.cached_rows,
+        contents: view.head.live.contents,
+        grafted: view.head.live.grafted,
+        grafted_rows: view.head.live.grafted_rows,
+        missing: view.head.live.missing,
+        timers: view.head.live.timers,
+        queued: view.head.live.queued,
+        dropped: view.head.live.dropped,
     }
 }
 
 // The bytes of the contents that expire later. Its time is that of one pass over the cached messages.
-fn contents_later(head: Head, block: &[u8], instant: Millis) -> usize
-    requires { Stands head block.now }
-    ensures { result ≡ sum (later_bytes instant.0) (state_of head block.now).cache.entries }
+fn contents_later(view: &View, instant: Millis) -> usize
+    requires { AtRest (shown view.now) }
+    ensures { result ≡ sum (later_bytes instant.0) (shown view.now).cache.entries }
 {
     let mut total = 0;
-    for i in 0..head.live.cached {
-        let expires = cached_expires(head, block, i);
+    for i in 0..view.head.live.cached {
+        let expires = cached_expires(view, i);
         if instant.0 < expires.0 {
-            total += cached::cached_content(head, block, i).len;
+            total += view.cached_content(i).len();
         }
     }
     total
 }
 
 // The numbers of entries that eviction leaves. Its time is that of one pass over the entries of each time cache.
-pub fn later_sizes(head: Head, block: &[u8], instant: Millis) -> Sizes
-    requires { Stands head block.now }
-    ensures { sizes_value result ≡ sizes_of (evict instant.0 (state_of head block.now)) }
+pub fn later_sizes(view: &View, instant: Millis) -> Sizes
+    requires { AtRest (shown view.now) }
+    ensures { sizes_value result ≡ sizes_of (evict instant.0 (shown view.now)) }
 {
-    let received = ReceivedMessages::entries_later(head, block, instant);
-    let received_rows = ReceivedMessages::rows_later(head, block, instant);
-    let cached = MessageCache::entries_later(head, block, instant);
-    let cached_rows = MessageCache::rows_later(head, block, instant);
-    let contents = contents_later(head, block, instant);
-    let grafted = GraftedMessages::entries_later(head, block, instant);
-    let grafted_rows = GraftedMessages::rows_later(head, block, instant);
+    let received = ReceivedMessages::entries_later(view, instant);
+    let received_rows = ReceivedMessages::rows_later(view, instant);
+    let cached = MessageCache::entries_later(view, instant);
+    let cached_rows = MessageCache::rows_later(view, instant);
+    let contents = contents_later(view, instant);
+    let grafted = GraftedMessages::entries_later(view, instant);
+    let grafted_rows = GraftedMessages::rows_later(view, instant);
     Sizes {
-        links: head.live.links,
+        links: view.head.live.links,
         received,
         received_rows,
         cached,
@@ -137,22 +143,22 @@ pub fn later_sizes(head: Head, block: &[u8], instant: Millis) -> Sizes
         contents,
         grafted,
         grafted_rows,
-        missing: head.live.missing,
-        timers: head.live.timers,
-        queued: head.live.queued,
-        dropped: head.live.dropped,
+        missing: view.head.live.missing,
+        timers: view.head.live.timers,
+        queued: view.head.live.queued,
+        dropped: view.head.live.dropped,
     }
 }
 
 // The numbers of entries then: at once where `init` is set.
-pub fn sizes_then(head: Head, block: &[u8], instant: Millis) -> Sizes
-    requires { Stands head block.now }
-    ensures { sizes_value result ≡ sizes_of (settled instant.0 (state_of head block.now)) }
+pub fn sizes_then(view: &View, instant: Millis) -> Sizes
+    requires { AtRest (shown view.now) }
+    ensures { sizes_value result ≡ sizes_of (settled instant.0 (shown view.now)) }
 {
-    if head.live.init {
-        return sizes_now(head, block);
+    if view.head.live.init {
+        return sizes_now(view);
     }
-    later_sizes(head, block, instant)
+    later_sizes(view, instant)
 }
 
 // Whether a time cache is within its limit: "Expiry entries: 2R, 2C, 2G".

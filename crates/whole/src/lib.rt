@@ -15,6 +15,7 @@ ghost use Rattle.whole.specs.Parts.{flags_with, head_whole};
 use block::head::{HEADER_SIZE, Head, Limits, Live};
 use block::header;
 use storage::rows::word;
+use tables::Tables;
 
 // "numbers of entries in range": no table has more rows than its limit; "Expiry entries: 2R, 2C, 2G".
 #[tactic(auto, unfolding(crate::specs::Held::counts_within))]
@@ -70,15 +71,15 @@ fn has_tables(limits: Limits, block: &[u8]) -> bool
 
 // What the header says is in range, and the tables are whole.
 #[tactic(auto, unfolding(crate::specs::Parts::head_whole), using(crate::proofs::HeldLaws::ceilings_there, crate::proofs::HeldLaws::fit_of))]
-fn head_whole(head: Head, block: &[u8]) -> bool
-    ensures { result ≡ head_whole head block.now }
+fn head_whole(head: &Head, block: &[u8]) -> bool
+    ensures { result ≡ head_whole head.now block.now }
 {
     has_tables(head.limits, block)
         && counts_within(head.limits, head.live)
         && create::size_in_range(head.settings)
         && create::durations_in_range(head.settings)
         && flags_stand(head.live)
-        && tables::tables_whole(head, block)
+        && Tables { head, block }.tables_whole()
 }
 
 // (5) "Is the block whole?"
@@ -86,5 +87,5 @@ fn head_whole(head: Head, block: &[u8]) -> bool
 pub fn is_whole(block: &[u8]) -> bool
     ensures { result ≡ whole_block block.now }
 {
-    has_header(block) && head_whole(header::load_head(block), block)
+    has_header(block) && head_whole(&header::load_head(block), block)
 }

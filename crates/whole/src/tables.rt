@@ -2,16 +2,14 @@
 // peers are then neighbours, and each cache entry has an expiry entry of its time, by the layout.
 ghost use Rattle.std.specs.Prelude.{◌≡◌, ℕ, Bool, true, ◌&&◌, List, ◌+◌, ◌-◌, ◌*◌, ◌≤◌, ◌<◌, length};
 ghost use Rattle.std.specs.Fn.{FnReturnsAt};
+ghost use Rattle.std.proofs.Props.{props};
 ghost use Rattle.storage.specs.Lists.Base.{ascending, sum};
 ghost use Rattle.storage.specs.Rows.Rows.{rows};
 ghost use Rattle.storage.specs.Refs.Refs.{refs, places, Below};
-ghost use Rattle.protocol.specs.Whole.{record_within, noted_once};
-ghost use Rattle.block.specs.View.{state_of};
 ghost use Rattle.block.specs.Fit.{Fit};
-ghost use Rattle.block.specs.LinkSteps.{LinksAscend};
 ghost use Rattle.block.specs.Sound.{adjoin};
 ghost use Rattle.whole.specs.Held.{all_below, all_lists};
-ghost use Rattle.whole.specs.Parts.{length_at, graft_list, missed_list, few, links_whole, received_whole, cached_in_order, contents_adjoin, contents_used, cached_whole, grafted_in_order, grafted_peers, grafted_whole, missing_once, announcers, missing_whole, timers_whole, queue_whole, dropped_named, record_whole, tables_whole};
+ghost use Rattle.whole.specs.Parts.{length_at, graft_list, missed_list, few};
 
 use block::caches::cached::MessageCache;
 use block::caches::grafted::GraftedMessages;
@@ -28,32 +26,19 @@ use storage::rows::{table, word};
 use storage::tables::Row;
 use storage::{notes, refs};
 
+// A header and the block beside it, in which the tables lie: all that is known of them before question 5 is answered.
+#[derive(Clone, Copy)]
+pub struct Tables<'a> {
+    pub head: &'a Head,
+    pub block: &'a [u8],
+    ghost fit: { Fit head.now block.now } by { Prim.hlevel props },
+}
+
 // A byte as a number that can be an index.
 fn wide(byte: u8) -> usize
     ensures { result ≡ byte }
 {
     byte as usize
-}
-
-// "keys once": the peers of the links ascend.
-pub fn links_whole(head: Head, block: &[u8]) -> bool
-    requires { Fit head block.now }
-    ensures { result ≡ links_whole head block.now }
-{
-    for i in 1..head.live.links {
-        if links::peer_at(head, block, i) <= links::peer_at(head, block, i - 1) {
-            return false;
-        }
-    }
-    true
-}
-
-// Received messages: places name rows, keys once, rows in pop order.
-pub fn received_whole(head: Head, block: &[u8]) -> bool
-    requires { Fit head block.now }
-    ensures { result ≡ received_whole head block.now }
-{
-    ReceivedMessages::table(head).is_sound(block)
 }
 
 // The contents of cached rows adjoin: each starts where the one before it ends, and the last ends at `used`.
@@ -82,50 +67,6 @@ fn named_lengths(entries: &[u8], entry_count: usize, row_bytes: &[u8], row_count
         total += word::load4(row_bytes, place * cached::ROW_WIDTH + cached::LEN);
     }
     total
-}
-
-// The message cache: places name rows, keys once, rows in pop order.
-fn cached_in_order(head: Head, block: &[u8]) -> bool
-    requires { Fit head block.now }
-    ensures { result ≡ cached_in_order head block.now }
-{
-    MessageCache::table(head).is_sound(block)
-}
-
-// The contents of the cached rows adjoin.
-fn contents_adjoin(head: Head, block: &[u8]) -> bool
-    requires { Fit head block.now }
-    ensures { result ≡ contents_adjoin head block.now }
-{
-    let rows_at = head::cached_rows_at(head.limits);
-    adjoin(&block[rows_at..], head.live.cached_rows, head.live.contents)
-}
-
-// The contents of the cached messages are all that is used of the store.
-fn contents_used(head: Head, block: &[u8]) -> bool
-    requires fits { Fit head block.now }
-    requires in_order { cached_in_order head block.now ≡ true }
-    requires contents_adjoin { contents_adjoin head block.now ≡ true }
-    ensures { result ≡ contents_used head block.now }
-{
-    let at = head::cached_at(head.limits);
-    let rows_at = head::cached_rows_at(head.limits);
-    let total = named_lengths(
-        &block[at..],
-        head.live.cached,
-        &block[rows_at..],
-        head.live.cached_rows,
-    );
-    total == head.live.contents as u64
-}
-
-// Cached messages: the cache in order; contents adjoin, and those of the entries are all that is used of the store.
-#[tactic(auto, unfolding(crate::specs::Parts::cached_whole))]
-pub fn cached_whole(head: Head, block: &[u8]) -> bool
-    requires { Fit head block.now }
-    ensures { result ≡ cached_whole head block.now }
-{
-    cached_in_order(head, block) && contents_adjoin(head, block) && contents_used(head, block)
 }
 
 // The bytes are numbers of links, and ascend.
@@ -176,38 +117,6 @@ fn graft_list(list: &[u8], link_count: usize) -> bool
     n <= Hops::CAPACITY && numbers_ascend(&list[1..1 + n], link_count)
 }
 
-// The time cache of grafted messages: places name rows, keys once, rows in pop order.
-fn grafted_in_order(head: Head, block: &[u8]) -> bool
-    requires { Fit head block.now }
-    ensures { result ≡ grafted_in_order head block.now }
-{
-    GraftedMessages::table(head).is_sound(block)
-}
-
-// "grafted peers are neighbours, once per identifier"
-fn grafted_peers(head: Head, block: &[u8]) -> bool
-    requires { Fit head block.now × LinksAscend head block.now }
-    ensures { result ≡ grafted_peers head block.now }
-{
-    let at = head::grafted_at(head.limits);
-    let links = head.live.links;
-    lists_pass(
-        &block[at..],
-        grafted::ENTRY_WIDTH,
-        head.live.grafted,
-        |list| graft_list(list, links),
-    )
-}
-
-// Grafted messages: the time cache in order, and the peers.
-#[tactic(auto, unfolding(crate::specs::Parts::grafted_whole))]
-pub fn grafted_whole(head: Head, block: &[u8]) -> bool
-    requires { Fit head block.now × LinksAscend head block.now }
-    ensures { result ≡ grafted_whole head block.now }
-{
-    grafted_in_order(head, block) && grafted_peers(head, block)
-}
-
 // A list of link numbers and rounds: at least 1 number of a link and at most 32, each once.
 #[tactic(auto, unfolding(crate::specs::Parts::missed_list, crate::specs::Held::numbers_name))]
 fn missed_list(list: &[u8], link_count: usize) -> bool
@@ -216,48 +125,6 @@ fn missed_list(list: &[u8], link_count: usize) -> bool
 {
     let n = wide(list[0]);
     1 <= n && n <= Hops::CAPACITY && refs::numbers(&list[1..1 + n], link_count)
-}
-
-// Missing messages: keys once.
-fn missing_once(head: Head, block: &[u8]) -> bool
-    requires { Fit head block.now }
-    ensures { result ≡ missing_once head block.now }
-{
-    let at = head::missing_at(head.limits);
-    table::ascending(&block[at..], Missed::WIDTH, head.live.missing)
-}
-
-// "announcing .. peers are neighbours, once per identifier", and "none of these lists empty"
-fn announcers(head: Head, block: &[u8]) -> bool
-    requires { Fit head block.now × LinksAscend head block.now }
-    ensures { result ≡ announcers head block.now }
-{
-    let at = head::missing_at(head.limits);
-    let links = head.live.links;
-    lists_pass(
-        &block[at..],
-        Missed::WIDTH,
-        head.live.missing,
-        |list| missed_list(list, links),
-    )
-}
-
-// Missing messages: keys once, and their announcers.
-#[tactic(auto, unfolding(crate::specs::Parts::missing_whole))]
-pub fn missing_whole(head: Head, block: &[u8]) -> bool
-    requires { Fit head block.now × LinksAscend head block.now }
-    ensures { result ≡ missing_whole head block.now }
-{
-    missing_once(head, block) && announcers(head, block)
-}
-
-// Graft timers: keys once.
-pub fn timers_whole(head: Head, block: &[u8]) -> bool
-    requires { Fit head block.now }
-    ensures { result ≡ timers_whole head block.now }
-{
-    let at = head::timers_at(head.limits);
-    table::ascending(&block[at..], Id::WIDTH, head.live.timers)
 }
 
 // Every number is that of a link. There is no exit from the loop, so that it is done for many bytes at once.
@@ -271,15 +138,6 @@ fn numbers_below(numbers: &[u8], link_count: u8) -> bool
         }
     }
     bad == 0
-}
-
-// The queue: "queued .. peers are neighbours".
-pub fn queue_whole(head: Head, block: &[u8]) -> bool
-    requires { Fit head block.now }
-    ensures { result ≡ queue_whole head block.now }
-{
-    let at = head::queue_at(head.limits);
-    numbers_below(&block[at..at + head.live.queued], head.live.links as u8)
 }
 
 // No number, all of them below 32, stands more than 256 times.
@@ -301,62 +159,224 @@ fn few_each(numbers: &[u8]) -> bool
     true
 }
 
-// "dropped .. peers are neighbours"
-fn dropped_named(head: Head, block: &[u8]) -> bool
-    requires { Fit head block.now }
-    ensures { result ≡ dropped_named head block.now }
-{
-    let at = head::dropped_at(head.limits);
-    numbers_below(&block[at..at + head.live.dropped], head.live.links as u8)
-}
+impl<'a> Tables<'a> {
+    ghost use Rattle.std.specs.Prelude.{◌≡◌, ◌<◌, true};
+    ghost use Rattle.protocol.specs.Whole.{record_within, noted_once};
+    ghost use Rattle.block.specs.View.{state_of};
+    ghost use Rattle.block.specs.LinkSteps.{LinksAscend, peer_at};
+    ghost use Rattle.whole.specs.Parts.{links_whole, received_whole, cached_in_order, contents_adjoin, contents_used, cached_whole, grafted_in_order, grafted_peers, grafted_whole, missing_once, announcers, missing_whole, timers_whole, queue_whole, dropped_named, record_whole, tables_whole};
 
-// "records within 256 and 4,096"
-fn dropped_few(head: Head, block: &[u8]) -> bool
-    requires fits { Fit head block.now × LinksAscend head block.now }
-    requires named { dropped_named head block.now ≡ true }
-    ensures { result ≡ record_within (state_of head block.now).dropped }
-{
-    let at = head::dropped_at(head.limits);
-    few_each(&block[at..at + head.live.dropped])
-}
+    // The peer of link i.
+    fn peer_at(&self, i: usize) -> u64
+        requires { i < self.now.head.now.live.links }
+        ensures { result ≡ peer_at (state_of self.now.head.now self.now.block.now) i }
+    {
+        links::load_link(self.head, self.block, i).peer
+    }
 
-// "once per identifier among .. dropped"
-fn dropped_once(head: Head, block: &[u8]) -> bool
-    requires fits { Fit head block.now × LinksAscend head block.now }
-    requires named { dropped_named head block.now ≡ true }
-    ensures { result ≡ noted_once (state_of head block.now).dropped }
-{
-    let at = head::dropped_at(head.limits);
-    let rows_at = head::dropped_rows_at(head.limits);
-    notes::once(
-        &block[at..at + head.live.dropped],
-        &block[rows_at..],
-        head.live.dropped,
-    )
-}
+    // "keys once": the peers of the links ascend.
+    pub fn links_whole(&self) -> bool
+        ensures { result ≡ links_whole self.now.head.now self.now.block.now }
+    {
+        for i in 1..self.head.live.links {
+            if self.peer_at(i) <= self.peer_at(i - 1) {
+                return false;
+            }
+        }
+        true
+    }
 
-// The record: its peers, how many notes each has, and each note once. An empty one is whole.
-#[tactic(auto, unfolding(crate::specs::Parts::record_whole))]
-pub fn record_whole(head: Head, block: &[u8]) -> bool
-    requires { Fit head block.now × LinksAscend head block.now }
-    ensures { result ≡ record_whole head block.now }
-{
-    head.live.dropped == 0
-        || (dropped_named(head, block) && dropped_few(head, block) && dropped_once(head, block))
-}
+    // Received messages: places name rows, keys once, rows in pop order.
+    pub fn received_whole(&self) -> bool
+        ensures { result ≡ received_whole self.now.head.now self.now.block.now }
+    {
+        ReceivedMessages::table(self.head).is_sound(self.block)
+    }
 
-// All tables: the links first, since elsewhere peers are told by the numbers of their links.
-#[tactic(auto, unfolding(crate::specs::Parts::tables_whole, crate::specs::Parts::links_whole))]
-pub fn tables_whole(head: Head, block: &[u8]) -> bool
-    requires { Fit head block.now }
-    ensures { result ≡ tables_whole head block.now }
-{
-    links_whole(head, block)
-        && received_whole(head, block)
-        && cached_whole(head, block)
-        && grafted_whole(head, block)
-        && missing_whole(head, block)
-        && timers_whole(head, block)
-        && queue_whole(head, block)
-        && record_whole(head, block)
+    // The message cache: places name rows, keys once, rows in pop order.
+    fn cached_in_order(&self) -> bool
+        ensures { result ≡ cached_in_order self.now.head.now self.now.block.now }
+    {
+        MessageCache::table(self.head).is_sound(self.block)
+    }
+
+    // The contents of the cached rows adjoin.
+    fn contents_adjoin(&self) -> bool
+        ensures { result ≡ contents_adjoin self.now.head.now self.now.block.now }
+    {
+        let rows_at = head::cached_rows_at(self.head.limits);
+        adjoin(
+            &self.block[rows_at..],
+            self.head.live.cached_rows,
+            self.head.live.contents,
+        )
+    }
+
+    // The contents of the cached messages are all that is used of the store.
+    fn contents_used(&self) -> bool
+        requires in_order { cached_in_order self.now.head.now self.now.block.now ≡ true }
+        requires contents_adjoin { contents_adjoin self.now.head.now self.now.block.now ≡ true }
+        ensures { result ≡ contents_used self.now.head.now self.now.block.now }
+    {
+        let at = head::cached_at(self.head.limits);
+        let rows_at = head::cached_rows_at(self.head.limits);
+        let total = named_lengths(
+            &self.block[at..],
+            self.head.live.cached,
+            &self.block[rows_at..],
+            self.head.live.cached_rows,
+        );
+        total == self.head.live.contents as u64
+    }
+
+    // Cached messages: the cache in order; contents adjoin, and those of the entries are all that is used of the store.
+    #[tactic(auto, unfolding(crate::specs::Parts::cached_whole))]
+    pub fn cached_whole(&self) -> bool
+        ensures { result ≡ cached_whole self.now.head.now self.now.block.now }
+    {
+        self.cached_in_order() && self.contents_adjoin() && self.contents_used()
+    }
+
+    // The time cache of grafted messages: places name rows, keys once, rows in pop order.
+    fn grafted_in_order(&self) -> bool
+        ensures { result ≡ grafted_in_order self.now.head.now self.now.block.now }
+    {
+        GraftedMessages::table(self.head).is_sound(self.block)
+    }
+
+    // "grafted peers are neighbours, once per identifier"
+    fn grafted_peers(&self) -> bool
+        requires { LinksAscend self.now.head.now self.now.block.now }
+        ensures { result ≡ grafted_peers self.now.head.now self.now.block.now }
+    {
+        let at = head::grafted_at(self.head.limits);
+        let links = self.head.live.links;
+        lists_pass(
+            &self.block[at..],
+            grafted::ENTRY_WIDTH,
+            self.head.live.grafted,
+            |list| graft_list(list, links),
+        )
+    }
+
+    // Grafted messages: the time cache in order, and the peers.
+    #[tactic(auto, unfolding(crate::specs::Parts::grafted_whole))]
+    pub fn grafted_whole(&self) -> bool
+        requires { LinksAscend self.now.head.now self.now.block.now }
+        ensures { result ≡ grafted_whole self.now.head.now self.now.block.now }
+    {
+        self.grafted_in_order() && self.grafted_peers()
+    }
+
+    // Missing messages: keys once.
+    fn missing_once(&self) -> bool
+        ensures { result ≡ missing_once self.now.head.now self.now.block.now }
+    {
+        let at = head::missing_at(self.head.limits);
+        table::ascending(&self.block[at..], Missed::WIDTH, self.head.live.missing)
+    }
+
+    // "announcing .. peers are neighbours, once per identifier", and "none of these lists empty"
+    fn announcers(&self) -> bool
+        requires { LinksAscend self.now.head.now self.now.block.now }
+        ensures { result ≡ announcers self.now.head.now self.now.block.now }
+    {
+        let at = head::missing_at(self.head.limits);
+        let links = self.head.live.links;
+        lists_pass(
+            &self.block[at..],
+            Missed::WIDTH,
+            self.head.live.missing,
+            |list| missed_list(list, links),
+        )
+    }
+
+    // Missing messages: keys once, and their announcers.
+    #[tactic(auto, unfolding(crate::specs::Parts::missing_whole))]
+    pub fn missing_whole(&self) -> bool
+        requires { LinksAscend self.now.head.now self.now.block.now }
+        ensures { result ≡ missing_whole self.now.head.now self.now.block.now }
+    {
+        self.missing_once() && self.announcers()
+    }
+
+    // Graft timers: keys once.
+    pub fn timers_whole(&self) -> bool
+        ensures { result ≡ timers_whole self.now.head.now self.now.block.now }
+    {
+        let at = head::timers_at(self.head.limits);
+        table::ascending(&self.block[at..], Id::WIDTH, self.head.live.timers)
+    }
+
+    // The queue: "queued .. peers are neighbours".
+    pub fn queue_whole(&self) -> bool
+        ensures { result ≡ queue_whole self.now.head.now self.now.block.now }
+    {
+        let at = head::queue_at(self.head.limits);
+        numbers_below(
+            &self.block[at..at + self.head.live.queued],
+            self.head.live.links as u8,
+        )
+    }
+
+    // "dropped .. peers are neighbours"
+    fn dropped_named(&self) -> bool
+        ensures { result ≡ dropped_named self.now.head.now self.now.block.now }
+    {
+        let at = head::dropped_at(self.head.limits);
+        numbers_below(
+            &self.block[at..at + self.head.live.dropped],
+            self.head.live.links as u8,
+        )
+    }
+
+    // "records within 256 and 4,096"
+    fn dropped_few(&self) -> bool
+        requires links { LinksAscend self.now.head.now self.now.block.now }
+        requires named { dropped_named self.now.head.now self.now.block.now ≡ true }
+        ensures { result ≡ record_within (state_of self.now.head.now self.now.block.now).dropped }
+    {
+        let at = head::dropped_at(self.head.limits);
+        few_each(&self.block[at..at + self.head.live.dropped])
+    }
+
+    // "once per identifier among .. dropped"
+    fn dropped_once(&self) -> bool
+        requires links { LinksAscend self.now.head.now self.now.block.now }
+        requires named { dropped_named self.now.head.now self.now.block.now ≡ true }
+        ensures { result ≡ noted_once (state_of self.now.head.now self.now.block.now).dropped }
+    {
+        let at = head::dropped_at(self.head.limits);
+        let rows_at = head::dropped_rows_at(self.head.limits);
+        notes::once(
+            &self.block[at..at + self.head.live.dropped],
+            &self.block[rows_at..],
+            self.head.live.dropped,
+        )
+    }
+
+    // The record: its peers, how many notes each has, and each note once. An empty one is whole.
+    #[tactic(auto, unfolding(crate::specs::Parts::record_whole))]
+    pub fn record_whole(&self) -> bool
+        requires { LinksAscend self.now.head.now self.now.block.now }
+        ensures { result ≡ record_whole self.now.head.now self.now.block.now }
+    {
+        self.head.live.dropped == 0
+            || (self.dropped_named() && self.dropped_few() && self.dropped_once())
+    }
+
+    // All tables: the links first, since elsewhere peers are told by the numbers of their links.
+    #[tactic(auto, unfolding(crate::specs::Parts::tables_whole, crate::specs::Parts::links_whole))]
+    pub fn tables_whole(&self) -> bool
+        ensures { result ≡ tables_whole self.now.head.now self.now.block.now }
+    {
+        self.links_whole()
+            && self.received_whole()
+            && self.cached_whole()
+            && self.grafted_whole()
+            && self.missing_whole()
+            && self.timers_whole()
+            && self.queue_whole()
+            && self.record_whole()
+    }
 }

@@ -1,6 +1,6 @@
 -- The identifiers of a message that are not known, entry by entry.
 -- Assumes nothing.
-use Rattle.std.proofs.Common.{◌≡◌, refl, sym, ap, ◌∙◌, Bool, true, false, ◌||◌, List, [], ◌∷◌, ◌++◌, ℕ, ◌+◌, ◌≤◌, zero-le, suc-le-suc, arith, eqb, length, take, drop, length-append, take-append-drop, if◌then◌else◌}
+use Rattle.std.proofs.Common.{◌≡◌, refl, sym, ap, ◌∙◌, Bool, true, false, ◌||◌, List, [], ◌∷◌, ◌++◌, ℕ, ◌+◌, ◌≤◌, zero-le, suc-le-suc, arith, eqb, length, length-append, if◌then◌else◌}
 use Rattle.storage.specs.Lists.Base.{any, member}
 use Rattle.storage.specs.Lists.Map.{has}
 use Rattle.storage.proofs.ListsLaws.MapLaws.{cases}
@@ -70,14 +70,6 @@ module _ (known : ℕ → Bool) where
       long : (b : Bool) → (if b then 0 else 1) ≡ length (if b then [] else x.id ∷ [])
       long true = refl
       long false = refl
-
-  -- the rest of them, after the first i entries
-  unfoldable pub later_ids : ℕ → List Ihave → List ℕ
-  later_ids i hs = new_ids known (back (take i hs) []) (drop i hs)
-
-  pub new-rest : (i : ℕ) (hs : List Ihave) → new_ids known [] hs ≡ new_ids known [] (take i hs) ++ later_ids i hs
-  unfolding later_ids
-  new-rest i hs = ap (new_ids known []) (sym (take-append-drop i hs)) ∙ new-append [] (take i hs) (drop i hs)
 
 -- what the settled state has as it was
 module _ (now : ℕ) (s : State) where

@@ -14,8 +14,7 @@ use Rattle.block.specs.View.{state_of}
 use Rattle.block.specs.LinkSteps.{peer_at}
 use Rattle.block.specs.declared.head.Head.{Head}
 use Rattle.block.proofs.LinkLaws.{count-peers}
-use Rattle.steps.specs.Stands.{Stands}
-use Rattle.steps.proofs.StandsLaws.{links-up}
+use Rattle.block.specs.Panels.{AtRest}
 use Rattle.announcements.specs.QueuedRows.{held_then}
 use Rattle.announcements.proofs.OnDispatchLaws.LinkPeers.{pieces-among, nothing-queued, queued-among}
 use Rattle.announcements.proofs.OnDispatchLaws.SendLaws.{chunk-last, numbered-none}
@@ -46,7 +45,7 @@ no_pieces : (k p : ℕ) (ns : List Note) → queued_for p ns ≡ [] → peer_pie
 unfolding peer_pieces
 no_pieces k p ns e = ap (numbered p 1) (chunk-last k (length ns) (queued_for p ns) (ap length e)) ∙ numbered-none p 1
 
-module _ (h : Head) (xs : List ℕ) (stands : Stands h xs) where
+module _ (h : Head) (xs : List ℕ) (rest : AtRest (state_of h xs)) where
   abbrev s : State
   s = state_of h xs
 
@@ -56,8 +55,8 @@ module _ (h : Head) (xs : List ℕ) (stands : Stands h xs) where
   all-actions now rooms =
       settled-actions now rooms s
       ∙ ap (piece_actions (held_then now s) rooms s.timers.announce)
-      (sym (pieces-among (per_message s.settings.max_message_size) s.queue (keys s.links) (queued_peers s.queue) (links-up h xs stands) (queued-ascending s.queue)
-      (queued-among s.links s.queue stands.consistent.core.queued)
+      (sym (pieces-among (per_message s.settings.max_message_size) s.queue (keys s.links) (queued_peers s.queue) rest.consistent.core.links_up (queued-ascending s.queue)
+      (queued-among s.links s.queue rest.consistent.core.queued)
       (λ x m n. no_pieces (per_message s.settings.max_message_size) x s.queue (nothing-queued x s.queue n))))
 
   pub next-peer : (l : ℕ) → l < h.live.links → drop l (keys s.links) ≡ peer_at s l ∷ drop (l + 1) (keys s.links)

@@ -24,7 +24,7 @@ use Rattle.block.specs.Panels.{AtRest}
 use Rattle.block.specs.NoteSteps.{note_at}
 use Rattle.steps.specs.Rooms.{room_at}
 use Rattle.steps.proofs.RoomsLaws.{first-link}
-use Rattle.block.proofs.NoteRowLaws.{per-message}
+use Rattle.announcements.proofs.PerMessageLaws.{per-message}
 use Rattle.steps.specs.Calls.{rooms_of}
 use Rattle.steps.specs.declared.call.Call.{Call}
 use Rattle.announcements.specs.QueuedRows.{ihave_of, ihaves_at}

@@ -10,8 +10,8 @@ use Rattle.storage.proofs.ListsLaws.Lists.{any_append}
 use Rattle.postcard.specs.Message.{Ihave, IHave, ihave_bytes, message_bytes}
 use Rattle.postcard.specs.Output.{ihave_head}
 use Rattle.postcard.proofs.Listed.{ihave-listed}
-use Rattle.wire.specs.Encode.Intake.{Intake, after, RoomFor}
-use Rattle.wire.proofs.EncodeLaws.IntakeLaws.{after_append, room_after}
+use Rattle.wire.specs.Encode.Intake.{Intake, after}
+use Rattle.wire.proofs.EncodeLaws.IntakeLaws.{after_append}
 use Rattle.protocol.specs.State.{Note}
 use Rattle.block.specs.NoteSteps.{note_at}
 use Rattle.announcements.specs.QueuedRows.{ihave_of, ihaves_at, RowsOf}
@@ -58,12 +58,6 @@ module _ (ns : List Note) (rows : List ℕ) where
 module _ (hs : List Ihave) (count : ℕ) (counted : length hs ≡ count) (x : Intake) where
   whole : message_bytes (IHave hs) ≡ ihave_head count ++ concat_map ihave_bytes hs
   whole = ihave-listed hs count counted
-
-  pub head-room : RoomFor (message_bytes (IHave hs)) x → RoomFor (ihave_head count) x
-  head-room r = omega (arith, r, ap length whole, length-append (ihave_head count) (concat_map ihave_bytes hs))
-
-  pub entries-room : (y : Intake) → RoomFor (message_bytes (IHave hs)) x → y ≡ after (ihave_head count) x → RoomFor (concat_map ihave_bytes hs) y
-  entries-room y r e = rw (e, room_after (ihave_head count) x) (omega (arith, r, ap length whole, length-append (ihave_head count) (concat_map ihave_bytes hs)))
 
   pub ihave-after : (y z : Intake) → y ≡ after (ihave_head count) x → z ≡ after (concat_map ihave_bytes hs) y → z ≡ after (message_bytes (IHave hs)) x
   ihave-after y z e k =

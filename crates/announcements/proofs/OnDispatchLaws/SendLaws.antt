@@ -1,6 +1,6 @@
 -- An IHave with its timer; the IHaves to a link; the links.
 -- Assumes nothing.
-use Rattle.std.proofs.Common.{◌≡◌, refl, sym, ap, ◌∙◌, Bool, true, false, not, ◌||◌, List, [], ◌∷◌, ◌++◌, append-nil, append_assoc, ℕ, zero, suc, ◌+◌, ◌-◌, ◌≤◌, ◌<◌, arith, length, take, drop, length-drop, length-append, if◌then◌else◌}
+use Rattle.std.proofs.Common.{◌≡◌, refl, sym, ap, ◌∙◌, Bool, true, false, not, ◌||◌, List, [], ◌∷◌, ◌++◌, append-nil, append_assoc, ℕ, zero, suc, ◌+◌, ◌-◌, ◌≤◌, ◌<◌, arith, length, take, drop, length-drop, if◌then◌else◌}
 use Rattle.storage.specs.Lists.Base.{concat_map}
 use Rattle.storage.proofs.ListsLaws.ListLaws.{concat-append}
 use Rattle.storage.proofs.ListsLaws.MapLaws.{true≢}
@@ -14,8 +14,8 @@ use Rattle.decide.specs.Rooms.{kth_taken}
 use Rattle.decide.specs.Pieces.{Piece, numbered, peer_pieces, pieces, piece_taken, piece_actions}
 use Rattle.decide.specs.RecordGrowth.{announce_action, cached_in}
 use Rattle.decide.specs.ActionsAfter.{dispatch_actions}
-use Rattle.wire.specs.Encode.Intake.{Intake, after, RoomFor}
-use Rattle.wire.proofs.EncodeLaws.IntakeLaws.{after_append, after_nil, room_after}
+use Rattle.wire.specs.Encode.Intake.{Intake, after}
+use Rattle.wire.proofs.EncodeLaws.IntakeLaws.{after_append, after_nil}
 use Rattle.announcements.specs.QueuedRows.{quiet, timer_after, one_send, flag_after, flag_after_all}
 
 bytes-cons : {A : Type 0} (f : A → List ℕ) (x : A) (xs : List A) → concat_map f (x ∷ xs) ≡ f x ++ concat_map f xs
@@ -26,13 +26,7 @@ bytes-none : {A : Type 0} (f : A → List ℕ) → concat_map f [] ≡ []
 unfolding concat_map
 bytes-none f = refl
 
--- the first part of what is to be written, and the rest
-pub first-room : (xs ys : List ℕ) (x : Intake) → RoomFor (xs ++ ys) x → RoomFor xs x
-first-room xs ys x r = omega (arith, r, length-append xs ys)
-
-pub later-room : (xs ys : List ℕ) (x y : Intake) → RoomFor (xs ++ ys) x → y ≡ after xs x → RoomFor ys y
-later-room xs ys x y r e = rw (e, room_after xs x) (omega (arith, r, length-append xs ys))
-
+-- two parts are the whole
 pub both-after : (xs ys : List ℕ) (x y z : Intake) → y ≡ after xs x → z ≡ after ys y → z ≡ after (xs ++ ys) x
 both-after xs ys x y z e f = f ∙ ap (after ys) e ∙ after_append xs ys x
 
@@ -51,12 +45,6 @@ module _ (held : ℕ → Bool) (taken flag : Bool) (p : ℕ) (hs : List Ihave) w
       ∙ ap (λ (l : List ℕ). l ++ concat_map action_bytes (timer_after (quiet held taken flag hs))) (sym (append_assoc (1 ∷ number_bytes p) (taken_byte taken ∷ []) (message_bytes (IHave hs))))
 
   module _ (x y : Intake) where
-    pub send-room : RoomFor whole_of x → RoomFor head_of x
-    send-room r = first-room head_of (concat_map action_bytes (timer_after (quiet held taken flag hs))) x (rw send-bytes at r)
-
-    pub timer-room : RoomFor whole_of x → y ≡ after head_of x → (acts : List Action) → timer_after (quiet held taken flag hs) ≡ acts → RoomFor (concat_map action_bytes acts) y
-    timer-room r e acts f = later-room head_of (concat_map action_bytes acts) x y (rw (send-bytes ∙ ap (λ (l : List Action). head_of ++ concat_map action_bytes l) f) at r) e
-
     pub send-quiet : y ≡ after head_of x → quiet held taken flag hs ≡ true → y ≡ after whole_of x
     send-quiet e f =
         e ∙ ap (λ (l : List ℕ). after l x) (sym (send-bytes ∙ ap (λ (still : Bool). head_of ++ concat_map action_bytes (timer_after still)) f ∙ ap (λ (l : List ℕ). head_of ++ l) (bytes-none action_bytes) ∙ append-nil head_of))
@@ -177,9 +165,6 @@ module _ {held : ℕ → Bool} {rooms : List Room} {p k : ℕ} {whole : List ℕ
     split-link : whole ≡ li.sofar ++ (concat_map action_bytes sent ++ left)
     split-link = li.bytes ∙ ap (λ (l : List ℕ). li.sofar ++ l) (ap (concat_map action_bytes) acts-are ∙ concat-append action_bytes sent (piece_actions held rooms (flag_after held taken flag (take k hs)) later))
 
-    pub link-room : RoomFor whole start → RoomFor (concat_map action_bytes sent) now
-    link-room w = first-room (concat_map action_bytes sent) left now (later-room li.sofar (concat_map action_bytes sent ++ left) start now (rw split-link at w) li.written)
-
     pub link-next : (now' : Intake) (flag' : Bool) (rest : List Ihave) → now' ≡ after (concat_map action_bytes sent) now → flag' ≡ flag_after held taken flag (take k hs) → rest ≡ drop k hs
         → Linking held rooms p k whole final start now' rest (nth + 1) flag'
     unfolding piece_taken
@@ -234,9 +219,6 @@ module _ {held : ℕ → Bool} {rooms : List Room} {k : ℕ} {queue : List Note}
         go.bytes ∙ ap (λ (l : List ℕ). go.sofar ++ concat_map action_bytes (piece_actions held rooms flag (pieces l k queue))) e
         ∙ ap (λ (l : List ℕ). go.sofar ++ l) (ap (concat_map action_bytes) (sends-append held rooms flag own (pieces qs k queue))
         ∙ concat-append action_bytes (piece_actions held rooms flag own) (piece_actions held rooms (flag_after_all held rooms flag own) (pieces qs k queue)))
-
-    pub going-room : RoomFor whole start → RoomFor (concat_map action_bytes (piece_actions held rooms flag own)) now
-    going-room t = first-room (concat_map action_bytes (piece_actions held rooms flag own)) ahead now (later-room go.sofar (concat_map action_bytes (piece_actions held rooms flag own) ++ ahead) start now (rw split-all at t) go.written)
 
     pub going_next : (now' : Intake) (flag' : Bool) → now' ≡ after (concat_map action_bytes (piece_actions held rooms flag own)) now → flag' ≡ flag_after_all held rooms flag own
         → Going held rooms k queue whole start now' qs flag'

@@ -7,8 +7,8 @@ ghost use Rattle.wire.specs.Encode.Intake.{after};
 ghost use Rattle.block.specs.Views.{shown};
 ghost use Rattle.announcements.specs.QueuedRows.{ihaves_at, RowsOf};
 
+use block::panel::View;
 use postcard::message::Ihave;
-use steps::view::View;
 use wire::encode::Encode;
 use wire::encode::message::IhaveHead;
 use wire::encode::sink::Sink;

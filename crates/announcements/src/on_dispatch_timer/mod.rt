@@ -1,5 +1,6 @@
 // `on_dispatch_timer`: "Dispatch empties the queue, peers ascending, IHave of at most (M − 6) / 35, rounded down; handed back are noted".
 ghost use Rattle.std.specs.Prelude.{◌≡◌, ◌+◌, ◌≤◌, ◌<◌, true, length, ◌++◌};
+ghost use Rattle.postcard.specs.Sizes.{per_message};
 ghost use Rattle.decide.specs.Sizes.{sizes_of};
 ghost use Rattle.decide.specs.Settled.{settled};
 ghost use Rattle.wire.specs.Encode.Intake.{after};
@@ -15,12 +16,21 @@ pub mod sends;
 
 use crate::on_dispatch_timer::noted::{may_hand_back, to_note};
 use arrayvec::ArrayVec;
+use block::panel::{Panel, View};
 use protocol::MAX_DROPPED;
 use steps::Sizes;
 use steps::call::Call;
-use steps::panel::Panel;
-use steps::view::View;
+use steps::settled::sizes_then;
 use wire::encode::sink::Sink;
+use wire::serialized_size;
+
+// "IHave of at most (M − 6) / 35, rounded down".
+pub(crate) fn per_message(view: &View) -> usize
+    requires { AtRest (shown view.now) }
+    ensures { result ≡ per_message (shown view.now).settings.max_message_size }
+{
+    serialized_size::chunk_len(view.head.settings.max_message_size as usize)
+}
 
 // How many notes it adds to the record.
 #[inline(never)]
@@ -39,7 +49,7 @@ pub fn dispatch_sizes(view: &View, call: &Call) -> Sizes
     requires { AtRest (shown view.now) }
     ensures { sizes_value result ≡ sizes_of (after_dispatch call.now (settled call.now.instant.0 (shown view.now))) }
 {
-    let mut sizes = view.sizes_then(call.instant);
+    let mut sizes = sizes_then(view, call.instant);
     sizes.queued = 0;
     if may_hand_back(view, call) {
         sizes.dropped += dispatch_notes(view, call);

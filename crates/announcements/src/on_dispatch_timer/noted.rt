@@ -13,13 +13,16 @@ ghost use Rattle.block.specs.Views.{shown};
 ghost use Rattle.announcements.specs.Marks.{low_of, Covers, Found};
 ghost use Rattle.announcements.specs.QueuedRows.{held_then, ihaves_at, notes_at, among, RowsOf, Mine, LinkPart};
 
+use crate::on_dispatch_timer::per_message;
 use crate::on_dispatch_timer::sends::FEW_ROWS;
 use arrayvec::ArrayVec;
+use block::note::MAX_QUEUED;
+use block::panel::View;
 use postcard::units::Millis;
 use protocol::{MAX_DROPPED, MAX_DROPPED_PER_PEER};
 use steps::call::Call;
-use steps::groups::{MAX_ROWS, STARTS, group, link_rows};
-use steps::view::View;
+use steps::groups::{STARTS, group, link_rows};
+use steps::lookups::is_cached_then;
 use storage::rows::id::Id;
 
 // How many marks there are. A link's mark is one more than its number: an identifier without it is none of those that were marked for the link.
@@ -113,7 +116,7 @@ fn is_cached(view: &View, instant: Millis, found: &mut [u16], row: u16, id: Id) 
     if 0 < named && view.queued(named - 1).id == id {
         return true;
     }
-    if !view.is_cached_then(instant, id) {
+    if !is_cached_then(view, instant, id) {
         return false;
     }
     found[place] = row + 1;
@@ -167,7 +170,7 @@ fn note_link(
 // How many of a link's identifiers are in IHaves that are taken.
 fn taken(room: u64, per_message: usize, queued: usize) -> usize
     requires some { 1 ≤ per_message × (per_message ≤ 116) }
-    requires few { queued ≤ MAX_ROWS }
+    requires few { queued ≤ MAX_QUEUED }
     ensures { result ≡ min (room * per_message) queued }
 {
     if room < queued as u64 {
@@ -202,7 +205,7 @@ pub fn to_note(view: &View, call: &Call, noted: &mut ArrayVec<u16, MAX_DROPPED>)
     if view.queue_len() <= FEW_ROWS && view.record_len() <= FEW_ROWS {
         return to_note_in::<FEW_ROWS, FEW_ROWS, FEW_ROWS>(view, call, noted);
     }
-    to_note_in::<MAX_ROWS, MAX_DROPPED, MARKS>(view, call, noted);
+    to_note_in::<MAX_QUEUED, MAX_DROPPED, MARKS>(view, call, noted);
 }
 
 // Whether a link hands back some of its rows of the queue, which stand together. Its time is that of one pass over the links.
@@ -211,7 +214,7 @@ fn is_handed_back(view: &View, call: &Call, rows: &[u16], starts: &[usize; START
     requires mine { (l : ℕ) → l < length (shown view.now).links → Apart rows.now starts.now l × Mine (shown view.now) (shown view.now).queue l (part rows.now starts.now l) }
     ensures { result ≡ false → add_batches (held_then call.now.instant.0 (shown view.now)) (dispatch_batches (rooms_of call.now (shown view.now)) (queued_peers (shown view.now).queue) (per_message (shown view.now).settings.max_message_size) (shown view.now).queue) (shown view.now).dropped ≡ (shown view.now).dropped }
 {
-    let per_message = view.per_message();
+    let per_message = per_message(view);
     for link in 0..view.link_count() {
         let queued = link_rows(rows, starts, link).len();
         let taken = taken(call.rooms.links[link], per_message, queued);
@@ -233,7 +236,7 @@ fn to_note_in<const QUEUE: usize, const RECORD: usize, const FOUND: usize>(
     requires queue { length (shown view.now).queue ≤ QUEUE }
     requires record { length (shown view.now).dropped ≤ RECORD }
     requires some { 0 < FOUND }
-    requires few { (QUEUE ≤ MAX_ROWS) × (RECORD ≤ MAX_DROPPED) × (FOUND ≤ MARKS) }
+    requires few { (QUEUE ≤ MAX_QUEUED) × (RECORD ≤ MAX_DROPPED) × (FOUND ≤ MARKS) }
     requires none { noted.old.items ≡ [] }
     ensures noted { add_batches (held_then call.now.instant.0 (shown view.now)) (dispatch_batches (rooms_of call.now (shown view.now)) (queued_peers (shown view.now).queue) (per_message (shown view.now).settings.max_message_size) (shown view.now).queue) (shown view.now).dropped ≡ (shown view.now).dropped ++ notes_at (shown view.now).queue noted.new.items }
     ensures rows { RowsOf (shown view.now).queue noted.new.items }
@@ -247,7 +250,7 @@ fn to_note_in<const QUEUE: usize, const RECORD: usize, const FOUND: usize>(
     let record = group(view.record_links(), &mut record_rows);
     let mut marks = [0u8; MARKS];
     let mut found = [0u16; FOUND];
-    let per_message = view.per_message();
+    let per_message = per_message(view);
     for link in 0..view.link_count() {
         let queued = link_rows(&queue_rows, &queue, link);
         let taken = taken(call.rooms.links[link], per_message, queued.len());

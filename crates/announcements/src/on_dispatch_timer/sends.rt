@@ -15,11 +15,14 @@ ghost use Rattle.announcements.specs.OnDispatchTimer.{dispatch_bytes};
 ghost use Rattle.announcements.specs.QueuedRows.{held_then, some_held, one_send, flag_after, flag_after_all, ihaves_at, RowsOf, Mine};
 
 use crate::on_dispatch_timer::ihave::QueuedIhave;
+use crate::on_dispatch_timer::per_message;
+use block::note::MAX_QUEUED;
+use block::panel::View;
 use postcard::units::Millis;
 use steps::call::Call;
-use steps::groups::{MAX_ROWS, group, link_rows};
+use steps::groups::{group, link_rows};
+use steps::lookups::is_cached_then;
 use steps::schedule::schedule_announce_dropped;
-use steps::view::View;
 use wire::encode::Encode;
 use wire::encode::action::Send;
 use wire::encode::sink::Sink;
@@ -40,10 +43,7 @@ fn any_cached(ihave: &QueuedIhave, instant: Millis) -> bool
     ensures { result ≡ some_held (held_then instant.0 (shown ihave.now.view)) (ihaves_at (shown ihave.now.view).queue ihave.now.rows.now) }
 {
     for row in ihave.rows {
-        if ihave
-            .view
-            .is_cached_then(instant, ihave.view.queued(*row as usize).id)
-        {
+        if is_cached_then(&ihave.view, instant, ihave.view.queued(*row as usize).id) {
             return true;
         }
     }
@@ -90,7 +90,7 @@ fn send_link<S: Sink>(
     let room = call.rooms.links[queued.link];
     let mut flag = before;
     let mut sent: u64 = 0;
-    for rows in queued.rows.chunks(view.per_message()) {
+    for rows in queued.rows.chunks(per_message(view)) {
         let message = QueuedIhave { view: *view, rows };
         let taken = sent < room;
         flag = send_ihave(
@@ -135,5 +135,5 @@ pub fn send_queued<S: Sink>(view: &View, call: &Call, out: &mut S)
     if view.queue_len() <= FEW_ROWS {
         return send_all(view, call, out, &mut [0u16; FEW_ROWS]);
     }
-    send_all(view, call, out, &mut [0u16; MAX_ROWS]);
+    send_all(view, call, out, &mut [0u16; MAX_QUEUED]);
 }

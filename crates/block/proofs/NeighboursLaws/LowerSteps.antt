@@ -1,17 +1,17 @@
 -- The four changes that lower the link numbers of a block, one after the other: queue, record, grafted rows, missing rows.
 -- Assumes nothing.
-use Rattle.std.proofs.Common.{◌≡◌, refl, sym, ap, ◌∙◌, subst, List, [], ◌++◌, map, ℕ, ◌+◌, ◌-◌, ◌*◌, ◌≤◌, ◌<◌, arith, lit<, length, take, drop, get_or, set, drop_at}
-use lib.Seq.{take-append-le}
+use Rattle.std.proofs.Common.{◌≡◌, refl, sym, ap, ◌∙◌, subst, List, [], ◌++◌, map, ℕ, ◌+◌, ◌-◌, ◌*◌, ◌≤◌, ◌<◌, arith, lit<, length, take, drop, get_or, set, take_at, drop_at, take-take, take-append-drop, length-append, length-take-le, length-drop}
+use Rattle.std.specs.declared.ops.Range.{Range}
+use borrow.Rule.Slice.PartMut.{put_mid}
 use Rattle.storage.specs.Lists.Base.{filter}
 use Rattle.storage.specs.Lists.Map.{keys}
-use Rattle.storage.specs.Rows.Part.{part, put, Only}
-use Rattle.storage.specs.Rows.Rows.{rows}
+use Rattle.storage.specs.Rows.Part.{part, put}
 use Rattle.storage.specs.Rows.Sorted.{Ascending}
-use Rattle.storage.proofs.RowsLaws.Parts.{length_part, length-put, part-put, part-add, put-put-next, get_d_part}
+use Rattle.storage.proofs.RowsLaws.Parts.{length-put, part-add, put-put-next, put_all, loan-put, get_d_part}
 use Rattle.storage.specs.Refs.Refs.{ref, places, Below}
 use Rattle.time_cache.proofs.Orders.{up_of}
 use Rattle.protocol.specs.State.{Limits}
-use Rattle.block.specs.Layout.{sizes, place, tables, table, end}
+use Rattle.block.specs.Layout.{sizes, place, span, tables, table, end}
 use Rattle.block.specs.View.{limits_of, view_with, state_of}
 use Rattle.storage.specs.Refs.Numbers.{numbered, lower_all, entries}
 use Rattle.block.specs.Fit.{Fit}
@@ -20,16 +20,30 @@ use Rattle.block.specs.LinkSteps.{LinksAscend}
 use Rattle.block.specs.Heads.{with_link_count, with_queued_count, with_dropped_count, with_missing_count}
 use Rattle.block.specs.declared.head.Head.{Head}
 use Rattle.block.proofs.Cut.{cut-part, within}
-use Rattle.block.proofs.Tables.{frame-whole, length-table}
+use Rattle.block.proofs.Tables.{frame, length-table}
 use Rattle.block.proofs.LinkLaws.{count-peers}
+use Rattle.block.proofs.Lent.{lent_at, given_back, lent-table, lent-room, lent-frame, lent-long}
 use Rattle.storage.proofs.RefsLaws.Numbered.{numbered-same}
-use Rattle.block.specs.Neighbours.Lowered.{without_peer, Listed, listed, lower_listed, announced, AllFew, LoweredIn, MissedIn, NotesIn, LoweredLinks}
+use Rattle.block.specs.Neighbours.Lowered.{without_peer, Listed, listed, lower_listed, announced, AllFew, LoweredLinks}
 use Rattle.block.proofs.NeighboursLaws.RaisedRows.{few-in}
 use Rattle.block.proofs.NeighboursLaws.LoweredRefs.{below-lowered, places-numbered}
 use Rattle.block.proofs.NeighboursLaws.LoweredTables.{notes-left, missing-left, grafted-left, places-lowered, fine_of, of-fine, fine-lowered, fine-filter, Fine}
 
--- two tables, the one after the other
-module _ (l : Limits) (t u : ℕ) (ht : t < 15) (hu : u < 15) (nx : place l u ≡ place l t + get_or (sizes l) t 0) where
+-- the parts of the block that are lent: queue and record with their rows, grafted entries, missing messages
+pub record Spans (l : Limits) : Type 0 where
+  pub queue : Range ℕ
+  pub queue-start : queue.start ≡ place l 11
+  pub queue-end : queue.end ≡ place l 13
+  pub record-notes : Range ℕ
+  pub record-start : record-notes.start ≡ place l 13
+  pub record-end : record-notes.end ≡ end l
+  pub grafted : Range ℕ
+  pub grafted-is : grafted ≡ span l 7
+  pub missing : Range ℕ
+  pub missing-is : missing ≡ span l 9
+
+-- two tables that are lent as one part, the one after the other: numbers in the one, rows beside them in the other
+module _ (l : Limits) (t u : ℕ) (ht : t < 15) (hu : u < 15) (nx : place l u ≡ place l t + get_or (sizes l) t 0) (r : Range ℕ) (hs : r.start ≡ place l t) (he : r.end ≡ place l u + get_or (sizes l) u 0) where
   abbrev a : ℕ
   a = place l t
 
@@ -42,75 +56,69 @@ module _ (l : Limits) (t u : ℕ) (ht : t < 15) (hu : u < 15) (nx : place l u �
   ends : a + k + j ≤ end l
   ends = omega (arith, within (sizes l) u 0 j hu (omega arith))
 
-  two-parts : (xs : List ℕ) → part a (k + j) xs ≡ table l t xs ++ table l u xs
-  two-parts xs =
-      part-add a k j xs ∙ (λ z. sym (cut-part (sizes l) t xs ht) z ++ (ap (λ (b : ℕ). part b j xs) (sym nx) ∙ sym (cut-part (sizes l) u xs hu)) z)
+  wide : r.end - r.start ≡ k + j
+  wide = omega (arith, hs, he, nx)
 
-  -- numbers in the one, rows beside them in the other
-  pub two-read : (n : ℕ) (xs : List ℕ) → end l ≤ length xs → n ≤ k → entries k 34 n (part a (k + j) xs) ≡ numbered ref 34 n (table l t xs) (table l u xs)
-  two-read n xs long h =
-      let lt : length (table l t xs) ≡ k = length-table l t xs ht long in
-      ap (entries k 34 n) (two-parts xs)
-      ∙ numbered-same ref 34 n (table l t xs ++ table l u xs) (table l t xs) (drop k (table l t xs ++ table l u xs)) (table l u xs)
-      (take-append-le n (table l t xs) (table l u xs) (omega arith))
-      (ap (rows 34 n) (drop_at (table l t xs) (table l u xs) k lt))
+  two-lent : (xs : List ℕ) → lent_at r xs ≡ table l t xs ++ table l u xs
+  unfolding part
+  two-lent xs =
+      (λ z. take (wide z) (drop (hs z) xs))
+      ∙ part-add a k j xs
+      ∙ (λ z. sym (cut-part (sizes l) t xs ht) z ++ (ap (λ (b : ℕ). part b j xs) (sym nx) ∙ sym (cut-part (sizes l) u xs hu)) z)
 
-  pub two-frame : (xs ys : List ℕ) → end l ≤ length xs → length ys ≡ length xs → Only a (k + j) xs ys → tables l ys ≡ set (set (tables l xs) t (table l t ys)) u (table l u ys)
-  two-frame xs ys long e only =
-      let A : List ℕ = part a k ys in
-      let B : List ℕ = part (a + k) j ys in
-      let la : length A ≡ k = length_part a k ys (omega (arith, ends)) in
-      let lb : length B ≡ j = length_part (a + k) j ys (omega (arith, ends)) in
-      let x1 : List ℕ = put a A xs in
-      let l1 : length x1 ≡ length xs = length-put a A xs (omega (arith, ends)) in
-      let one : part a k x1 ≡ A = part-put a k A xs la (omega (arith, ends)) in
-      let f1 : tables l x1 ≡ set (tables l xs) t A = frame-whole l t xs x1 ht long l1 (ap (λ (b : List ℕ). put a b xs) (sym one)) ∙ ap (set (tables l xs) t) one in
-      let w : ys ≡ put (place l u) (part (place l u) j ys) x1 =
-      only
-      ∙ ap (λ (b : List ℕ). put a b xs) (part-add a k j ys)
-      ∙ sym (put-put-next a (a + k) A B xs (omega arith) (omega (arith, ends)))
-      ∙ (λ z. put (sym nx z) (part (sym nx z) j ys) x1) in
-      frame-whole l u x1 ys hu (omega arith) (e ∙ sym l1) w
-      ∙ (λ z. set (f1 z) u (sym (cut-part (sizes l) u ys hu) z))
-      ∙ ap (λ (b : List ℕ). set (set (tables l xs) t b) u (table l u ys)) (sym (cut-part (sizes l) t ys ht))
+  -- one table anew
+  whole : (v : ℕ) (bs ws : List ℕ) → v < 15 → length bs ≡ get_or (sizes l) v 0 → end l ≤ length ws → tables l (put (place l v) bs ws) ≡ set (tables l ws) v bs
+  whole v bs ws hv e long =
+      let z : place l v ≡ place l v + 0 = omega arith in
+      ap (λ (n : ℕ). tables l (put n bs ws)) z ∙ frame l v 0 bs ws hv (omega arith) long ∙ ap (set (tables l ws) v) (put_all bs (table l v ws) (e ∙ sym (length-table l v ws hv long)))
 
-  -- the notes that are left
-  module _ (i c m o n r : ℕ) (xs ys : List ℕ) (long : end l ≤ length xs) (ec : c ≡ a) (em : m ≡ k + j) (eo : o ≡ k) (h : n ≤ k) (w : NotesIn i c m o n xs ys r) where
-    at-tables : NotesIn i a (k + j) k n xs ys r
-    at-tables =
-        subst (λ (b : ℕ). NotesIn i b (k + j) k n xs ys r) ec
-        (subst (λ (b : ℕ). NotesIn i c b k n xs ys r) em (subst (λ (b : ℕ). NotesIn i c m b n xs ys r) eo w))
+  module _ (xs zs : List ℕ) (long : end l ≤ length xs) (g : length zs ≡ length (lent_at r xs)) where
+    lt : length (table l t xs) ≡ k
+    lt = length-table l t xs ht long
 
-    pub notes-frame : tables l ys ≡ set (set (tables l xs) t (table l t ys)) u (table l u ys)
-    notes-frame = two-frame xs ys long w.long at-tables.only
+    lz : length zs ≡ k + j
+    lz = g ∙ ap length (two-lent xs) ∙ length-append (table l t xs) (table l u xs) ∙ (λ z. lt z + length-table l u xs hu long z)
 
-    pub notes-are : numbered ref 34 r (table l t ys) (table l u ys) ≡ lower_all i (numbered ref 34 n (table l t xs) (table l u xs))
-    notes-are =
-        sym (two-read r ys (omega (arith, w.long)) (omega (arith, w.few)))
-        ∙ at-tables.left
-        ∙ ap (lower_all i) (two-read n xs long h)
+    la : length (take k zs) ≡ k
+    la = length-take-le k zs (omega (arith, lz))
 
--- one table
-module _ (l : Limits) (t : ℕ) (ht : t < 15) (xs ys : List ℕ) (long : end l ≤ length xs) (same : length ys ≡ length xs) (a k : ℕ) (ea : a ≡ place l t) (ek : k ≡ get_or (sizes l) t 0) where
-  lent-table : (zs : List ℕ) → part a k zs ≡ table l t zs
-  lent-table zs = (λ z. part (ea z) (ek z) zs) ∙ sym (cut-part (sizes l) t zs ht)
+    lb : length (drop k zs) ≡ j
+    lb = omega (arith, length-drop k zs, lz)
 
-  pub one-frame : Only a k xs ys → tables l ys ≡ set (tables l xs) t (table l t ys)
-  one-frame only =
-      frame-whole l t xs ys ht long same (only ∙ (λ z. put (ea z) (part (ea z) (ek z) ys) xs)) ∙ ap (set (tables l xs) t) (sym (cut-part (sizes l) t ys ht))
+    back : given_back r xs zs ≡ put a zs xs
+    back = (λ z. put_mid (hs z) (wide z) xs zs) ∙ loan-put a (k + j) zs xs lz
 
-  pub rows_are : (i s n o : ℕ) → LoweredIn i a k s n o xs ys → listed o s n (table l t ys) ≡ map (lower_listed i) (listed o s n (table l t xs))
-  rows_are i s n o w =
-      ap (listed o s n) (sym (lent-table ys)) ∙ w.rows ∙ ap (λ (b : List ℕ). map (lower_listed i) (listed o s n b)) (lent-table xs)
+    pub two-long : length (given_back r xs zs) ≡ length xs
+    two-long = ap length back ∙ length-put a zs xs (omega (arith, lz, ends))
 
-  pub missed-are : (i n r : ℕ) → MissedIn i a k n xs ys r → listed 32 129 r (table l t ys) ≡ filter announced (map (lower_listed i) (listed 32 129 n (table l t xs)))
-  missed-are i n r w =
-      ap (listed 32 129 r) (sym (lent-table ys)) ∙ w.rows ∙ ap (λ (b : List ℕ). filter announced (map (lower_listed i) (listed 32 129 n b))) (lent-table xs)
+    pub two-frame : tables l (given_back r xs zs) ≡ set (set (tables l xs) t (take k zs)) u (drop k zs)
+    two-frame =
+        let x1 : List ℕ = put a (take k zs) xs in
+        let l1 : length x1 ≡ length xs = length-put a (take k zs) xs (omega (arith, la, ends)) in
+        ap (tables l) (back
+        ∙ ap (λ (b : List ℕ). put a b xs) (sym (take-append-drop k zs))
+        ∙ sym (put-put-next a (a + k) (take k zs) (drop k zs) xs (omega (arith, la)) (omega (arith, lb, ends)))
+        ∙ ap (λ (b : ℕ). put b (drop k zs) x1) (sym nx))
+        ∙ whole u (drop k zs) x1 hu lb (omega arith)
+        ∙ ap (λ (ts : List (List ℕ)). set ts u (drop k zs)) (whole t (take k zs) xs ht la long)
 
-  pub few-are : (m o s n : ℕ) (zs : List ℕ) → o < s → table l t zs ≡ table l t xs → AllNumbered m o s n (table l t xs) → AllFew o s n (part a k zs)
-  few-are m o s n zs h e all =
-      subst (AllFew o s n) (sym (lent-table zs ∙ e))
-      (record { each = λ q b. omega (arith, few-in m o (part (q * s) s (table l t xs)) (all.each q b), get_d_part (q * s) s o 0 (table l t xs) h) })
+    -- the notes that are left
+    pub two-left : (i n q o : ℕ) → o ≡ k → n ≤ k → q ≤ n → entries o 34 q zs ≡ lower_all i (entries o 34 n (lent_at r xs))
+        → numbered ref 34 q (take k zs) (drop k zs) ≡ lower_all i (numbered ref 34 n (table l t xs) (table l u xs))
+    two-left i n q o eo hn hq w =
+        sym (apart q zs (omega arith))
+        ∙ subst (λ (b : ℕ). entries b 34 q zs ≡ lower_all i (entries b 34 n (lent_at r xs))) eo w
+        ∙ ap (lower_all i) (ap (entries k 34 n) (two-lent xs) ∙ apart n (table l t xs ++ table l u xs) hn
+        ∙ (λ z. numbered ref 34 n (take_at (table l t xs) (table l u xs) k lt z) (drop_at (table l t xs) (table l u xs) k lt z)))
+      where
+        apart : (m : ℕ) (bs : List ℕ) → m ≤ k → entries k 34 m bs ≡ numbered ref 34 m (take k bs) (drop k bs)
+        apart m bs h = numbered-same ref 34 m bs (take k bs) (drop k bs) (drop k bs) (sym (take-take m k bs h)) refl
+
+-- what a lent list has at most
+few-are : (l : Limits) (t m o s n : ℕ) (r : Range ℕ) (xs zs : List ℕ) → t < 15 → r ≡ span l t → o < s → table l t zs ≡ table l t xs → AllNumbered m o s n (table l t xs) → AllFew o s n (lent_at r zs)
+few-are l t m o s n r xs zs ht hr h e all =
+    subst (AllFew o s n) (sym (lent-table l t r zs ht hr ∙ e))
+    (record { each = λ q b. omega (arith, few-in m o (part (q * s) s (table l t xs)) (all.each q b), get_d_part (q * s) s o 0 (table l t xs) h) })
 
 -- the tables with all numbers lowered
 module _ (h : Head) (xs : List ℕ) (sound : Sound h xs) (asc : LinksAscend h xs) (i : ℕ) (hi : i < h.live.links) where
@@ -201,65 +209,102 @@ module _ (h : Head) (xs : List ℕ) (sound : Sound h xs) (asc : LinksAscend h xs
       });
     }
 
-  -- the places of the tables, and one change after the other
-  module _ (a11 a12 a13 a14 ae a7 a8 a9 a10 : ℕ) (e11 : a11 ≡ place l1 11) (e12 : a12 ≡ place l1 12) (e13 : a13 ≡ place l1 13) (e14 : a14 ≡ place l1 14) (ee : ae ≡ end l1)
-      (e7 : a7 ≡ place l1 7) (e8 : a8 ≡ place l1 8) (e9 : a9 ≡ place l1 9) (e10 : a10 ≡ place l1 10) (y1 : List ℕ) (q : ℕ) (w1 : NotesIn i a11 (a13 - a11) (a12 - a11) h.live.queued xs y1 q) where
-    f1 : tables l1 y1 ≡ set (set (tables l1 xs) 11 (table l1 11 y1)) 12 (table l1 12 y1)
-    f1 = notes-frame l1 11 12 (lit< tt) (lit< tt) (omega arith) i a11 (a13 - a11) (a12 - a11) h.live.queued q xs y1 fit.long e11 (omega arith) (omega arith) (omega (arith, fit.within)) w1
+  -- one change after the other
+  module _ (sp : Spans l1) (z1 : List ℕ) (q o1 : ℕ) (g1 : length z1 ≡ length (lent_at sp.queue xs)) (k1 : o1 ≡ get_or (sizes l1) 11 0)
+      (w1 : (q ≤ h.live.queued) × (entries o1 34 q z1 ≡ lower_all i (entries o1 34 h.live.queued (lent_at sp.queue xs)))) where
+    abbrev y1 : List ℕ
+    y1 = given_back sp.queue xs z1
 
-    n1 : numbered ref 34 q (table l1 11 y1) (table l1 12 y1) ≡ lower_all i (numbered ref 34 h.live.queued (T 11) (T 12))
-    n1 = notes-are l1 11 12 (lit< tt) (lit< tt) (omega arith) i a11 (a13 - a11) (a12 - a11) h.live.queued q xs y1 fit.long e11 (omega arith) (omega arith) (omega (arith, fit.within)) w1
+    abbrev s11 : ℕ
+    s11 = get_or (sizes l1) 11 0
 
-    module _ (y2 : List ℕ) (d : ℕ) (w2 : NotesIn i a13 (ae - a13) (a14 - a13) h.live.dropped y1 y2 d) where
+    end11 : sp.queue.end ≡ place l1 12 + get_or (sizes l1) 12 0
+    end11 = omega (arith, sp.queue-end)
+
+    f1 : tables l1 y1 ≡ set (set (tables l1 xs) 11 (take s11 z1)) 12 (drop s11 z1)
+    f1 = two-frame l1 11 12 (lit< tt) (lit< tt) (omega arith) sp.queue sp.queue-start end11 xs z1 fit.long g1
+
+    pub long1 : length y1 ≡ length xs
+    long1 = two-long l1 11 12 (lit< tt) (lit< tt) (omega arith) sp.queue sp.queue-start end11 xs z1 fit.long g1
+
+    n1 : numbered ref 34 q (take s11 z1) (drop s11 z1) ≡ lower_all i (numbered ref 34 h.live.queued (T 11) (T 12))
+    n1 = two-left l1 11 12 (lit< tt) (lit< tt) (omega arith) sp.queue sp.queue-start end11 xs z1 fit.long g1 i h.live.queued q o1 k1 (omega (arith, fit.within)) w1.0 w1.1
+
+    module _ (z2 : List ℕ) (d o2 : ℕ) (g2 : length z2 ≡ length (lent_at sp.record-notes y1)) (k2 : o2 ≡ get_or (sizes l1) 13 0)
+        (w2 : (d ≤ h.live.dropped) × (entries o2 34 d z2 ≡ lower_all i (entries o2 34 h.live.dropped (lent_at sp.record-notes y1)))) where
+      abbrev y2 : List ℕ
+      y2 = given_back sp.record-notes y1 z2
+
+      abbrev s13 : ℕ
+      s13 = get_or (sizes l1) 13 0
+
+      end13 : sp.record-notes.end ≡ place l1 14 + get_or (sizes l1) 14 0
+      end13 = omega (arith, sp.record-end)
+
+      room1 : end l1 ≤ length y1
+      room1 = omega (arith, long1, fit.long)
+
       abbrev t2 : List (List ℕ)
-      t2 = set (set (set (set (tables l1 xs) 11 (table l1 11 y1)) 12 (table l1 12 y1)) 13 (table l1 13 y2)) 14 (table l1 14 y2)
-
-      pub long2 : length y2 ≡ length xs
-      long2 = w2.long ∙ w1.long
+      t2 = set (set (set (set (tables l1 xs) 11 (take s11 z1)) 12 (drop s11 z1)) 13 (take s13 z2)) 14 (drop s13 z2)
 
       f2 : tables l1 y2 ≡ t2
       f2 =
-          notes-frame l1 13 14 (lit< tt) (lit< tt) (omega arith) i a13 (ae - a13) (a14 - a13) h.live.dropped d y1 y2 (omega (arith, fit.long, w1.long)) e13 (omega arith) (omega arith) (omega (arith, fit.within)) w2
-          ∙ ap (λ (ts : List (List ℕ)). set (set ts 13 (table l1 13 y2)) 14 (table l1 14 y2)) f1
+          two-frame l1 13 14 (lit< tt) (lit< tt) (omega arith) sp.record-notes sp.record-start end13 y1 z2 room1 g2
+          ∙ ap (λ (ts : List (List ℕ)). set (set ts 13 (take s13 z2)) 14 (drop s13 z2)) f1
 
-      n2 : numbered ref 34 d (table l1 13 y2) (table l1 14 y2) ≡ lower_all i (numbered ref 34 h.live.dropped (T 13) (T 14))
+      long2 : length y2 ≡ length xs
+      long2 = two-long l1 13 14 (lit< tt) (lit< tt) (omega arith) sp.record-notes sp.record-start end13 y1 z2 room1 g2 ∙ long1
+
+      n2 : numbered ref 34 d (take s13 z2) (drop s13 z2) ≡ lower_all i (numbered ref 34 h.live.dropped (T 13) (T 14))
       n2 =
-          notes-are l1 13 14 (lit< tt) (lit< tt) (omega arith) i a13 (ae - a13) (a14 - a13) h.live.dropped d y1 y2 (omega (arith, fit.long, w1.long)) e13 (omega arith) (omega arith) (omega (arith, fit.within)) w2
+          two-left l1 13 14 (lit< tt) (lit< tt) (omega arith) sp.record-notes sp.record-start end13 y1 z2 room1 g2 i h.live.dropped d o2 k2 (omega (arith, fit.within)) w2.0 w2.1
           ∙ ap (λ (ts : List (List ℕ)). lower_all i (numbered ref 34 h.live.dropped (get_or ts 13 []) (get_or ts 14 []))) f1
 
-      k7 : a8 - a7 ≡ get_or (sizes l1) 7 0
-      k7 = omega arith
+      room2 : end l1 ≤ length y2
+      room2 = omega (arith, long2, fit.long)
 
-      pub third-asks : AllFew 22 119 h.live.grafted (part a7 (a8 - a7) y2)
-      third-asks =
-          few-are l1 7 (lit< tt) xs y2 fit.long long2 a7 (a8 - a7) e7 k7 h.live.links 22 119 h.live.grafted y2 (omega arith) (ap (λ (ts : List (List ℕ)). get_or ts 7 []) f2) old.grafts
+      pub third-asks : (h.live.grafted * 119 ≤ length (lent_at sp.grafted y2)) × AllFew 22 119 h.live.grafted (lent_at sp.grafted y2)
+      third-asks = (
+        omega (arith, lent-room l1 7 sp.grafted y2 (lit< tt) sp.grafted-is room2, fit.within),
+        few-are l1 7 h.live.links 22 119 h.live.grafted sp.grafted xs y2 (lit< tt) sp.grafted-is (omega arith) (ap (λ (ts : List (List ℕ)). get_or ts 7 []) f2) old.grafts,
+      )
 
-      module _ (y3 : List ℕ) (w3 : LoweredIn i a7 (a8 - a7) 119 h.live.grafted 22 y2 y3) where
-        pub long3 : length y3 ≡ length xs
-        long3 = w3.long ∙ long2
+      module _ (z3 : List ℕ) (g3 : length z3 ≡ length (lent_at sp.grafted y2))
+          (w3 : listed 22 119 h.live.grafted z3 ≡ map (lower_listed i) (listed 22 119 h.live.grafted (lent_at sp.grafted y2))) where
+        abbrev y3 : List ℕ
+        y3 = given_back sp.grafted y2 z3
 
-        f3 : tables l1 y3 ≡ set t2 7 (table l1 7 y3)
-        f3 =
-            one-frame l1 7 (lit< tt) y2 y3 (omega (arith, fit.long, long2)) w3.long a7 (a8 - a7) e7 k7 w3.only
-            ∙ ap (λ (ts : List (List ℕ)). set ts 7 (table l1 7 y3)) f2
+        f3 : tables l1 y3 ≡ set t2 7 z3
+        f3 = lent-frame l1 7 sp.grafted y2 (lit< tt) sp.grafted-is z3 room2 g3 ∙ ap (λ (ts : List (List ℕ)). set ts 7 z3) f2
 
-        n3 : listed 22 119 h.live.grafted (table l1 7 y3) ≡ map (lower_listed i) (listed 22 119 h.live.grafted (T 7))
+        long3 : length y3 ≡ length xs
+        long3 = lent-long l1 7 sp.grafted y2 (lit< tt) sp.grafted-is z3 room2 g3 ∙ long2
+
+        n3 : listed 22 119 h.live.grafted z3 ≡ map (lower_listed i) (listed 22 119 h.live.grafted (T 7))
         n3 =
-            rows_are l1 7 (lit< tt) y2 y3 (omega (arith, fit.long, long2)) w3.long a7 (a8 - a7) e7 k7 i 119 h.live.grafted 22 w3
-            ∙ ap (λ (ts : List (List ℕ)). map (lower_listed i) (listed 22 119 h.live.grafted (get_or ts 7 []))) f2
+            w3
+            ∙ ap (λ (bs : List ℕ). map (lower_listed i) (listed 22 119 h.live.grafted bs)) (lent-table l1 7 sp.grafted y2 (lit< tt) sp.grafted-is ∙ ap (λ (ts : List (List ℕ)). get_or ts 7 []) f2)
 
-        k9 : a10 - a9 ≡ get_or (sizes l1) 9 0
-        k9 = omega arith
+        room3 : end l1 ≤ length y3
+        room3 = omega (arith, long3, fit.long)
 
-        pub fourth-asks : AllFew 32 129 h.live.missing (part a9 (a10 - a9) y3)
-        fourth-asks =
-            few-are l1 9 (lit< tt) xs y3 fit.long long3 a9 (a10 - a9) e9 k9 h.live.links 32 129 h.live.missing y3 (omega arith) (ap (λ (ts : List (List ℕ)). get_or ts 9 []) f3) old.missing
+        pub fourth-asks : (h.live.missing * 129 ≤ length (lent_at sp.missing y3)) × AllFew 32 129 h.live.missing (lent_at sp.missing y3)
+        fourth-asks = (
+          omega (arith, lent-room l1 9 sp.missing y3 (lit< tt) sp.missing-is room3, fit.within),
+          few-are l1 9 h.live.links 32 129 h.live.missing sp.missing xs y3 (lit< tt) sp.missing-is (omega arith) (ap (λ (ts : List (List ℕ)). get_or ts 9 []) f3) old.missing,
+        )
 
-        pub all-steps : (y4 : List ℕ) (m : ℕ) → MissedIn i a9 (a10 - a9) h.live.missing y3 y4 m → LoweredLinks i h xs (left_head q d m) y4
-        all-steps y4 m w4 =
-            lowered-links (table l1 11 y1) (table l1 12 y1) (table l1 13 y2) (table l1 14 y2) (table l1 7 y3) (table l1 9 y4) y4 q d m (w4.long ∙ long3)
-            (one-frame l1 9 (lit< tt) y3 y4 (omega (arith, fit.long, long3)) w4.long a9 (a10 - a9) e9 k9 w4.only
-            ∙ ap (λ (ts : List (List ℕ)). set ts 9 (table l1 9 y4)) f3)
-            w1.few w2.few w4.few n1 n2 n3
-            (missed-are l1 9 (lit< tt) y3 y4 (omega (arith, fit.long, long3)) w4.long a9 (a10 - a9) e9 k9 i h.live.missing m w4
-            ∙ ap (λ (ts : List (List ℕ)). filter announced (map (lower_listed i) (listed 32 129 h.live.missing (get_or ts 9 [])))) f3)
+        module _ (z4 : List ℕ) (m : ℕ) (g4 : length z4 ≡ length (lent_at sp.missing y3))
+            (w4 : (m ≤ h.live.missing) × (listed 32 129 m z4 ≡ filter announced (map (lower_listed i) (listed 32 129 h.live.missing (lent_at sp.missing y3))))) where
+          abbrev y4 : List ℕ
+          y4 = given_back sp.missing y3 z4
+
+          pub all-steps : LoweredLinks i h xs (left_head q d m) y4
+          all-steps =
+              lowered-links (take s11 z1) (drop s11 z1) (take s13 z2) (drop s13 z2) z3 z4 y4 q d m
+              (lent-long l1 9 sp.missing y3 (lit< tt) sp.missing-is z4 room3 g4 ∙ long3)
+              (lent-frame l1 9 sp.missing y3 (lit< tt) sp.missing-is z4 room3 g4 ∙ ap (λ (ts : List (List ℕ)). set ts 9 z4) f3)
+              w1.0 w2.0 w4.0 n1 n2 n3
+              (w4.1
+              ∙ ap (λ (bs : List ℕ). filter announced (map (lower_listed i) (listed 32 129 h.live.missing bs)))
+              (lent-table l1 9 sp.missing y3 (lit< tt) sp.missing-is ∙ ap (λ (ts : List (List ℕ)). get_or ts 9 []) f3))

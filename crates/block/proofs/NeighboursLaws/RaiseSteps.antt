@@ -1,20 +1,21 @@
 -- The four changes that raise the link numbers of a block, one after the other: queue, record, grafted rows, missing rows.
 -- Assumes nothing.
-use Rattle.std.proofs.Common.{◌≡◌, refl, sym, ap, ◌∙◌, subst, List, [], map, ℕ, ◌+◌, ◌-◌, ◌≤◌, ◌<◌, arith, lit<, length, take, get_or, set}
+use Rattle.std.proofs.Common.{◌≡◌, refl, sym, ap, ◌∙◌, subst, List, [], map, ℕ, ◌+◌, ◌*◌, ◌≤◌, ◌<◌, arith, lit<, length, take, get_or, set}
+use Rattle.std.specs.declared.ops.Range.{Range}
 use Rattle.storage.specs.Rows.Part.{part}
 use Rattle.storage.specs.Rows.Rows.{rows}
 use Rattle.storage.specs.Refs.Refs.{Below}
 use Rattle.protocol.specs.State.{Limits}
-use Rattle.block.specs.Layout.{sizes, place, tables, table}
+use Rattle.block.specs.Layout.{sizes, place, span, tables, table, end}
 use Rattle.block.specs.View.{limits_of}
 use Rattle.block.specs.Sound.{Sound, AllNumbered}
 use Rattle.block.specs.declared.head.Head.{Head}
-use Rattle.block.proofs.Cut.{cut-part}
 use Rattle.block.proofs.RowLaws.{part_in}
-use Rattle.block.specs.Neighbours.Raised.{raised_row, RaisedIn, RaisedLinks}
+use Rattle.block.specs.Neighbours.Raised.{raised_row, RaisedLinks}
+use Rattle.block.proofs.Lent.{lent_at, given_back, lent-table, lent-room, lent-frame, lent-long}
 use Rattle.storage.specs.Refs.Numbers.{raised}
 use Rattle.block.proofs.NeighboursLaws.RaisedLaws.{below_more}
-use Rattle.block.proofs.NeighboursLaws.UpLaws.{column-long, column-frame, table-frame, table-rows, raised-links}
+use Rattle.block.proofs.NeighboursLaws.UpLaws.{column-long, column-frame, raised-links}
 
 all_more : (m k o s n : ℕ) (xs : List ℕ) → m ≤ k → AllNumbered m o s n xs → AllNumbered k o s n xs
 all_more m k o s n xs h a = record {
@@ -39,12 +40,10 @@ module _ (h : Head) (xs : List ℕ) (sound : Sound h xs) (i : ℕ) (hi : i ≤ h
       let p : take n (T t) ≡ part (place l t) n ys = ap (take n) (sym e) ∙ part_in l t 0 n ys ht (omega arith) ∙ ap (λ (a : ℕ). part a n ys) z in
       subst (Below 255) p (below_more h.live.links 255 (take n (T t)) few-links b)
 
-  rows-below : (t o s n a k : ℕ) (ys : List ℕ) → t < 15 → a ≡ place l t → k ≡ get_or (sizes l) t 0 → table l t ys ≡ T t → AllNumbered h.live.links o s n (T t) → AllNumbered 255 o s n (part a k ys)
-  rows-below t o s n a k ys ht ea ek e b =
-      let p : T t ≡ part a k ys = sym e ∙ cut-part (sizes l) t ys ht ∙ (λ z. part (sym ea z) (sym ek z) ys) in
-      subst (AllNumbered 255 o s n) p (all_more h.live.links 255 o s n (T t) few-links b)
+  rows-below : (t o s n : ℕ) (r : Range ℕ) (ys : List ℕ) → t < 15 → r ≡ span l t → table l t ys ≡ T t → AllNumbered h.live.links o s n (T t) → AllNumbered 255 o s n (lent_at r ys)
+  rows-below t o s n r ys ht hr e b = subst (AllNumbered 255 o s n) (sym (lent-table l t r ys ht hr ∙ e)) (all_more h.live.links 255 o s n (T t) few-links b)
 
-  module _ (a11 a13 a7 a8 a9 a10 : ℕ) (e11 : a11 ≡ place l 11) (e13 : a13 ≡ place l 13) (e7 : a7 ≡ place l 7) (e8 : a8 ≡ place l 8) (e9 : a9 ≡ place l 9) (e10 : a10 ≡ place l 10) where
+  module _ (a11 a13 : ℕ) (e11 : a11 ≡ place l 11) (e13 : a13 ≡ place l 13) (r7 r9 : Range ℕ) (h7 : r7 ≡ span l 7) (h9 : r9 ≡ span l 9) where
     pub first-asks : Below 255 (part a11 h.live.queued xs)
     first-asks = subst (λ (a : ℕ). Below 255 (part a h.live.queued xs)) (sym e11) (column-below 11 h.live.queued xs (lit< tt) (omega (arith, sound.fit)) refl sound.laid.queue)
 
@@ -81,44 +80,42 @@ module _ (h : Head) (xs : List ℕ) (sound : Sound h xs) (i : ℕ) (hi : i ≤ h
             ∙ column-long l 13 (lit< tt) y1 (omega (arith, sound.fit.long, long1)) i h.live.dropped (omega (arith, sound.fit))
             ∙ long1
 
-        k7 : a8 - a7 ≡ get_or (sizes l) 7 0
-        k7 = omega arith
+        abbrev t2 : List (List ℕ)
+        t2 = set (set (tables l xs) 11 (raised i 0 h.live.queued (T 11))) 13 (raised i 0 h.live.dropped (T 13))
 
-        pub third-asks : AllNumbered 255 22 119 h.live.grafted (part a7 (a8 - a7) y2)
-        third-asks = rows-below 7 22 119 h.live.grafted a7 (a8 - a7) y2 (lit< tt) e7 k7 (ap (λ (ts : List (List ℕ)). get_or ts 7 []) f2) sound.laid.grafts
+        room2 : end l ≤ length y2
+        room2 = omega (arith, sound.fit.long, long2)
 
-        module _ (y3 : List ℕ) (w3 : RaisedIn i a7 (a8 - a7) 119 h.live.grafted 22 y2 y3) where
-          abbrev g : List ℕ
-          g = table l 7 y3
+        pub third-asks : (h.live.grafted * 119 ≤ length (lent_at r7 y2)) × AllNumbered 255 22 119 h.live.grafted (lent_at r7 y2)
+        third-asks = (
+          omega (arith, lent-room l 7 r7 y2 (lit< tt) h7 room2, sound.fit),
+          rows-below 7 22 119 h.live.grafted r7 y2 (lit< tt) h7 (ap (λ (ts : List (List ℕ)). get_or ts 7 []) f2) sound.laid.grafts,
+        )
 
-          f3 : tables l y3 ≡ set (set (set (tables l xs) 11 (raised i 0 h.live.queued (T 11))) 13 (raised i 0 h.live.dropped (T 13))) 7 g
-          f3 =
-              table-frame l 7 (lit< tt) y2 (omega (arith, sound.fit.long, long2)) i a7 (a8 - a7) 119 h.live.grafted 22 y3 e7 k7 w3
-              ∙ ap (λ (ts : List (List ℕ)). set ts 7 g) f2
+        module _ (z3 : List ℕ) (g3 : length z3 ≡ length (lent_at r7 y2)) (w3 : rows 119 h.live.grafted z3 ≡ map (raised_row i 22) (rows 119 h.live.grafted (lent_at r7 y2))) where
+          abbrev y3 : List ℕ
+          y3 = given_back r7 y2 z3
 
-          rg : rows 119 h.live.grafted g ≡ map (raised_row i 22) (rows 119 h.live.grafted (T 7))
-          rg =
-              table-rows l 7 (lit< tt) y2 (omega (arith, sound.fit.long, long2)) i a7 (a8 - a7) 119 h.live.grafted 22 y3 e7 k7 w3
-              ∙ ap (λ (ts : List (List ℕ)). map (raised_row i 22) (rows 119 h.live.grafted (get_or ts 7 []))) f2
+          f3 : tables l y3 ≡ set t2 7 z3
+          f3 = lent-frame l 7 r7 y2 (lit< tt) h7 z3 room2 g3 ∙ ap (λ (ts : List (List ℕ)). set ts 7 z3) f2
 
-          pub long3 : length y3 ≡ length xs
-          long3 = w3.long ∙ long2
+          long3 : length y3 ≡ length xs
+          long3 = lent-long l 7 r7 y2 (lit< tt) h7 z3 room2 g3 ∙ long2
 
-          k9 : a10 - a9 ≡ get_or (sizes l) 9 0
-          k9 = omega arith
+          room3 : end l ≤ length y3
+          room3 = omega (arith, sound.fit.long, long3)
 
-          pub fourth-asks : AllNumbered 255 32 129 h.live.missing (part a9 (a10 - a9) y3)
-          fourth-asks = rows-below 9 32 129 h.live.missing a9 (a10 - a9) y3 (lit< tt) e9 k9 (ap (λ (ts : List (List ℕ)). get_or ts 9 []) f3) sound.laid.missing
+          pub fourth-asks : (h.live.missing * 129 ≤ length (lent_at r9 y3)) × AllNumbered 255 32 129 h.live.missing (lent_at r9 y3)
+          fourth-asks = (
+            omega (arith, lent-room l 9 r9 y3 (lit< tt) h9 room3, sound.fit),
+            rows-below 9 32 129 h.live.missing r9 y3 (lit< tt) h9 (ap (λ (ts : List (List ℕ)). get_or ts 9 []) f3) sound.laid.missing,
+          )
 
-          module _ (y4 : List ℕ) (w4 : RaisedIn i a9 (a10 - a9) 129 h.live.missing 32 y3 y4) where
-            abbrev v : List ℕ
-            v = table l 9 y4
-
-            pub all-steps : RaisedLinks i h xs y4
+          module _ (z4 : List ℕ) (g4 : length z4 ≡ length (lent_at r9 y3)) (w4 : rows 129 h.live.missing z4 ≡ map (raised_row i 32) (rows 129 h.live.missing (lent_at r9 y3))) where
+            pub all-steps : RaisedLinks i h xs (given_back r9 y3 z4)
             all-steps =
-                raised-links h xs sound i hi g v y4 (w4.long ∙ long3)
-                (table-frame l 9 (lit< tt) y3 (omega (arith, sound.fit.long, long3)) i a9 (a10 - a9) 129 h.live.missing 32 y4 e9 k9 w4
-                ∙ ap (λ (ts : List (List ℕ)). set ts 9 v) f3)
-                rg
-                (table-rows l 9 (lit< tt) y3 (omega (arith, sound.fit.long, long3)) i a9 (a10 - a9) 129 h.live.missing 32 y4 e9 k9 w4
-                ∙ ap (λ (ts : List (List ℕ)). map (raised_row i 32) (rows 129 h.live.missing (get_or ts 9 []))) f3)
+                raised-links h xs sound i hi z3 z4 (given_back r9 y3 z4)
+                (lent-long l 9 r9 y3 (lit< tt) h9 z4 room3 g4 ∙ long3)
+                (lent-frame l 9 r9 y3 (lit< tt) h9 z4 room3 g4 ∙ ap (λ (ts : List (List ℕ)). set ts 9 z4) f3)
+                (w3 ∙ ap (λ (bs : List ℕ). map (raised_row i 22) (rows 119 h.live.grafted bs)) (lent-table l 7 r7 y2 (lit< tt) h7 ∙ ap (λ (ts : List (List ℕ)). get_or ts 7 []) f2))
+                (w4 ∙ ap (λ (bs : List ℕ). map (raised_row i 32) (rows 129 h.live.missing bs)) (lent-table l 9 r9 y3 (lit< tt) h9 ∙ ap (λ (ts : List (List ℕ)). get_or ts 9 []) f3))

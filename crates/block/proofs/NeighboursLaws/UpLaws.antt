@@ -14,11 +14,11 @@ use Rattle.block.specs.Fit.{Fit}
 use Rattle.block.specs.Sound.{Laid, Sound, AllNumbered}
 use Rattle.block.specs.Heads.{with_link_count}
 use Rattle.block.specs.declared.head.Head.{Head}
-use Rattle.block.proofs.Cut.{cut-part, within}
-use Rattle.block.proofs.Tables.{frame, frame-whole, length-table}
+use Rattle.block.proofs.Cut.{within}
+use Rattle.block.proofs.Tables.{frame, length-table}
 use Rattle.block.proofs.RowLaws.{part_in}
 use Rattle.block.proofs.LinkLaws.{count-peers}
-use Rattle.block.specs.Neighbours.Raised.{raised_row, RaisedIn, RaisedLinks, with_peer}
+use Rattle.block.specs.Neighbours.Raised.{raised_row, RaisedLinks, with_peer}
 use Rattle.storage.specs.Refs.Numbers.{raised}
 use Rattle.block.proofs.NeighboursLaws.RaisedLaws.{below_raised, take-raised, notes-raised, missing-raised, grafted-raised, places-raised, all-raised}
 
@@ -43,18 +43,6 @@ module _ (l : Limits) (t : ℕ) (ht : t < 15) (ys : List ℕ) (long : end l ≤ 
         ap (λ (a : ℕ). tables l (put a (map (shifted i) (part (place l t) n ys)) ys)) z
         ∙ frame l t 0 (map (shifted i) (part (place l t) n ys)) ys ht (omega (arith, column-numbers)) long
         ∙ ap (λ (ls : List ℕ). set (tables l ys) t (put 0 (map (shifted i) ls) (table l t ys))) p
-
-  -- rows with a list inside
-  module _ (i a k s n o : ℕ) (zs : List ℕ) (ea : a ≡ place l t) (ek : k ≡ size) (r : RaisedIn i a k s n o ys zs) where
-    at_table : RaisedIn i (place l t) size s n o ys zs
-    at_table = subst (λ (b : ℕ). RaisedIn i b size s n o ys zs) ea (subst (λ (j : ℕ). RaisedIn i a j s n o ys zs) ek r)
-
-    pub table-frame : tables l zs ≡ set (tables l ys) t (table l t zs)
-    table-frame = frame-whole l t ys zs ht long r.long at_table.only ∙ ap (set (tables l ys) t) (sym (cut-part (sizes l) t zs ht))
-
-    pub table-rows : rows s n (table l t zs) ≡ map (raised_row i o) (rows s n (table l t ys))
-    table-rows =
-        ap (rows s n) (cut-part (sizes l) t zs ht) ∙ at_table.rows ∙ ap (λ (b : List ℕ). map (raised_row i o) (rows s n b)) (sym (cut-part (sizes l) t ys ht))
 
 module _ (h : Head) (xs : List ℕ) (sound : Sound h xs) (i : ℕ) (hi : i ≤ h.live.links) where
   abbrev l1 : Limits

@@ -1,16 +1,14 @@
 -- The tables and the whole block after link i went: its number is dropped wherever it stands, and those above it are one lower.
 -- Assumes nothing.
 use Rattle.std.specs.Prelude.{◌≡◌, Bool, not, List, ◌++◌, map, ℕ, ◌+◌, ◌-◌, ◌*◌, suc, ◌≤◌, ◌<◌, eqb, length, take, drop, get_or}
-use Rattle.storage.specs.Lists.Base.{filter}
 use Rattle.storage.specs.Lists.Map.{keys}
-use Rattle.storage.specs.Rows.Part.{part, Only}
 use Rattle.storage.specs.Rows.Rows.{rows}
 use Rattle.storage.specs.Refs.Refs.{Ref, ref}
 use Rattle.protocol.specs.State.{State, with_missing, with_queue, with_dropped, with_grafted}
 use Rattle.protocol.specs.Neighbours.{forget_announcer, without_notes, forget_grafted}
 use Rattle.block.specs.Layout.{tables}
 use Rattle.block.specs.View.{byte_at, hops_in, limits_of, view_with, state_of}
-use Rattle.storage.specs.Refs.Numbers.{lower_all, entries}
+use Rattle.storage.specs.Refs.Numbers.{lower_all}
 use Rattle.block.specs.Fit.{Fit}
 use Rattle.block.specs.Sound.{Laid}
 use Rattle.block.specs.Heads.{with_link_count}
@@ -45,26 +43,6 @@ announced r = not (eqb r.count 0)
 -- the lists at o of n rows of s bytes have at most 32 each
 pub record AllFew (o s n : ℕ) (bytes : List ℕ) : Type 0 where
   pub each : (j : ℕ) → j < n → get_or bytes (j * s + o) 0 ≤ 32
-
--- the lists at o of the n rows of s bytes in the k bytes at a are lowered, and nothing else has changed
-pub record LoweredIn (i a k s n o : ℕ) (xs ys : List ℕ) : Type 0 where
-  pub rows : listed o s n (part a k ys) ≡ map (lower_listed i) (listed o s n (part a k xs))
-  pub only : Only a k xs ys
-  pub long : length ys ≡ length xs
-
--- of the n missing messages in the k bytes at a those that are still announced are left, r in number, with their lists lowered
-pub record MissedIn (i a k n : ℕ) (xs ys : List ℕ) (r : ℕ) : Type 0 where
-  pub few : r ≤ n
-  pub rows : listed 32 129 r (part a k ys) ≡ filter announced (map (lower_listed i) (listed 32 129 n (part a k xs)))
-  pub only : Only a k xs ys
-  pub long : length ys ≡ length xs
-
--- of the n numbers at the start of the k bytes at a, and the n rows of 34 bytes at o of these, r are left
-pub record NotesIn (i a k o n : ℕ) (xs ys : List ℕ) (r : ℕ) : Type 0 where
-  pub few : r ≤ n
-  pub left : entries o 34 r (part a k ys) ≡ lower_all i (entries o 34 n (part a k xs))
-  pub only : Only a k xs ys
-  pub long : length ys ≡ length xs
 
 -- without a peer's announcements, notes and grafts; the links are as they were
 abbrev pub without_traces : ℕ → State → State

@@ -1,8 +1,6 @@
 -- The tables and the whole block after a link came in at i: link numbers from i on are one higher.
 -- Assumes nothing.
-use Rattle.std.specs.Prelude.{◌≡◌, List, ◌∷◌, ◌++◌, map, ℕ, ◌+◌, length, take, drop}
-use Rattle.storage.specs.Rows.Part.{part, Only}
-use Rattle.storage.specs.Rows.Rows.{rows}
+use Rattle.std.specs.Prelude.{◌≡◌, List, ◌∷◌, ◌++◌, ℕ, ◌+◌, take, drop}
 use Rattle.storage.specs.Refs.Numbers.{raised}
 use Rattle.storage.specs.Lists.Map.{keys}
 use Rattle.block.specs.Layout.{tables}
@@ -15,12 +13,6 @@ use Rattle.block.specs.declared.head.Head.{Head}
 -- the numbers of the list at o of a row
 unfoldable pub raised_row : ℕ → ℕ → List ℕ → List ℕ
 raised_row i o row = raised i (o + 1) (byte_at o row) row
-
--- the lists at o of the n rows of s bytes in the k bytes at a are raised, and nothing else has changed
-pub record RaisedIn (i a k s n o : ℕ) (xs ys : List ℕ) : Type 0 where
-  pub rows : rows s n (part a k ys) ≡ map (raised_row i o) (rows s n (part a k xs))
-  pub only : Only a k xs ys
-  pub long : length ys ≡ length xs
 
 -- peers, with p put in at i
 abbrev pub with_peer : ℕ → ℕ → List ℕ → List ℕ

@@ -1,11 +1,10 @@
 // A link that went: its number is dropped wherever it stands, and the numbers after it are one lower (the specification, "Sets": "Down: out of both, and out of
 // announcers (empty lists go), queue, record, grafted peers").
-ghost use Rattle.std.specs.Prelude.{◌≡◌, map, ◌+◌, ◌-◌, ◌*◌, ◌≤◌, ◌<◌, length, get_or};
+ghost use Rattle.std.specs.Prelude.{◌≡◌, map, ◌+◌, ◌*◌, ◌≤◌, ◌<◌, length, get_or};
 ghost use Rattle.storage.specs.Lists.Base.{filter};
-ghost use Rattle.storage.specs.Rows.Part.{part};
 ghost use Rattle.block.specs.Sound.{Sound};
 ghost use Rattle.block.specs.LinkSteps.{LinksAscend};
-ghost use Rattle.block.specs.Neighbours.Lowered.{listed_of, listed, lower_listed, announced, AllFew, LoweredIn, MissedIn, NotesIn, LoweredLinks};
+ghost use Rattle.block.specs.Neighbours.Lowered.{listed_of, listed, lower_listed, announced, AllFew, LoweredLinks};
 
 use crate::caches::grafted::{ENTRY_WIDTH, PEERS};
 use crate::head::Head;

@@ -1,9 +1,8 @@
 // The link numbers of the block after a link came in.
-ghost use Rattle.std.specs.Prelude.{◌≡◌, ◌+◌, ◌-◌, ◌*◌, ◌≤◌, ◌<◌, map, length};
-ghost use Rattle.storage.specs.Rows.Part.{part};
+ghost use Rattle.std.specs.Prelude.{◌≡◌, ◌+◌, ◌*◌, ◌≤◌, map, length};
 ghost use Rattle.storage.specs.Rows.Rows.{rows};
 ghost use Rattle.block.specs.Sound.{Sound, AllNumbered};
-ghost use Rattle.block.specs.Neighbours.Raised.{raised_row, RaisedIn, RaisedLinks};
+ghost use Rattle.block.specs.Neighbours.Raised.{raised_row, RaisedLinks};
 
 use crate::caches::grafted::{ENTRY_WIDTH, PEERS};
 use crate::head::Head;

@@ -15,7 +15,6 @@ use Rattle.block.specs.LinkSteps.{peer_at}
 use Rattle.block.specs.declared.head.Head.{Head}
 use Rattle.decide.specs.Settled.{settled, settled_actions}
 use Rattle.decide.proofs.LengthLaws.{length-actions}
-use Rattle.steps.specs.Stands.{Stands}
 use Rattle.machine.specs.Kinds.Meaning.{StepHeld, step_actions}
 use Rattle.machine.specs.declared.kinds.Step.{Step}
 use Rattle.machine.specs.declared.kinds.Step.TheVariants as step
@@ -45,12 +44,12 @@ step-light rooms now t step.DispatchLazyPush s small held = dispatch-light rooms
 step-light rooms now t step.EvictCache s small held = light-more (evict-light now s small) (omega arith)
 step-light rooms now t step.AnnounceDropped s small held = light-more (announce-light s) (omega arith)
 
-module _ (h : Head) (block : List ℕ) (rooms : List Room) (now : ℕ) (r : Step) (stands : Stands h block) (held : StepHeld (state_of h block) r) where
+module _ (h : Head) (block : List ℕ) (rooms : List Room) (now : ℕ) (r : Step) (sound : Sound h block) (held : StepHeld (state_of h block) r) where
   -- the length of the output
   pub step-length : length (concat_map action_bytes (settled_actions now (state_of h block) ++ step_actions rooms now r (settled now (state_of h block)))) ≤ 2 ^ 40
   step-length =
       let s : State = state_of h block in
-      let small : Small (settled now s) = small-settled now s (small-block h block stands.sound) in
+      let small : Small (settled now s) = small-settled now s (small-block h block sound) in
       let both : Light (33836 + 7314866176) (settled_actions now s ++ step_actions rooms now r (settled now s)) =
-      light-then (settled-light now s (small-block h block stands.sound)) (step-light rooms now s r (settled now s) small held) in
+      light-then (settled-light now s (small-block h block sound)) (step-light rooms now s r (settled now s) small held) in
       omega (arith, length-actions (settled_actions now s ++ step_actions rooms now r (settled now s)), both.most)

@@ -37,21 +37,21 @@ unfolding step_past
 far-past call r s far = rw far refl
 
 -- the code's answer, of a state with the same limits
-pub told-past : (v : View) (t : State) (z : Sizes) (n : ℕ) → t.limits ≡ (shown v).limits → sizes_value z ≡ sizes_of t → n ≡ sizes_past (limits_of v.head.limits) (sizes_value z) → n ≡ limit_past t
+pub told-past : (v : View) (t : State) (z : Sizes) (n : ℕ) → t.limits ≡ (shown v).limits → sizes_value z ≡ sizes_of t → n ≡ sizes_past (limits_of v.head.now.limits) (sizes_value z) → n ≡ limit_past t
 told-past v t z n same e f =
-    f ∙ ap (sizes_past (limits_of v.head.limits)) e
+    f ∙ ap (sizes_past (limits_of v.head.now.limits)) e
     ∙ ap (λ (l : Limits). sizes_past l (sizes_of t)) (sym (same ∙ limits-of v))
     ∙ sym (past-sizes t)
 
 -- (13)
 pub near-past : (call : Call) (r : Step) (v : View) (z : Sizes) (n : ℕ) → step_far r ≡ false → (after_event call r (shown v)).limits ≡ (shown v).limits →
-    sizes_value z ≡ sizes_of (after_event call r (shown v)) → n ≡ sizes_past (limits_of v.head.limits) (sizes_value z) → n ≡ step_past call r (shown v)
+    sizes_value z ≡ sizes_of (after_event call r (shown v)) → n ≡ sizes_past (limits_of v.head.now.limits) (sizes_value z) → n ≡ step_past call r (shown v)
 unfolding step_past
 near-past call r v z n far same e f = told-past v (after_event call r (shown v)) z n same e f ∙ rw far refl
 
 module _ (rooms : List Room) (now p : ℕ) where
   -- neighbour up
-  pub up-past : (as_quiet : Bool) (v : View) (z : Sizes) (n : ℕ) → sizes_value z ≡ sizes_of (linked (link_up as_quiet p) (shown v)) → n ≡ sizes_past (limits_of v.head.limits) (sizes_value z) → n ≡ event_past rooms now 0 (Up as_quiet p) (shown v)
+  pub up-past : (as_quiet : Bool) (v : View) (z : Sizes) (n : ℕ) → sizes_value z ≡ sizes_of (linked (link_up as_quiet p) (shown v)) → n ≡ sizes_past (limits_of v.head.now.limits) (sizes_value z) → n ≡ event_past rooms now 0 (Up as_quiet p) (shown v)
   unfolding event_past size_fits too_far_before state_after
   up-past as_quiet v z n e f = told-past v (linked (link_up as_quiet p) (shown v)) z n refl e f
 

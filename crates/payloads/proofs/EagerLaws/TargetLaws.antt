@@ -62,10 +62,6 @@ module _ (sender : ℕ) (skip : List ℕ) (s : State) where
   abbrev pub first : ℕ → List ℕ
   first i = targets_in s.settings.me sender skip (take i s.links)
 
-  -- and behind them
-  abbrev pub rest : ℕ → List ℕ
-  rest i = targets_in s.settings.me sender skip (drop i s.links)
-
   pub first-none : first 0 ≡ []
   unfolding targets_in eager_peers peers_marked filter
   first-none = refl
@@ -76,12 +72,6 @@ module _ (sender : ℕ) (skip : List ℕ) (s : State) where
 
   pub first-all : (i : ℕ) → length s.links ≤ i → first i ≡ eager_targets sender skip s
   first-all i h = ap (targets_in s.settings.me sender skip) (take_all i s.links h) ∙ whole
-
-  pub first_rest : (i : ℕ) → eager_targets sender skip s ≡ first i ++ rest i
-  first_rest i =
-      sym whole
-      ∙ sym (ap (targets_in s.settings.me sender skip) (take-append-drop i s.links))
-      ∙ targets-append s.settings.me sender skip (take i s.links) (drop i s.links)
 
   module _ (i : ℕ) (q : i < length s.links) where
     one : targets_in s.settings.me sender skip (link_at s i ∷ []) ≡ (if is_target sender skip s i then peer_at s i ∷ [] else [])

@@ -1,6 +1,6 @@
 -- The sends of an eager push, link by link.
 -- Assumes nothing.
-use Rattle.std.proofs.Common.{◌≡◌, ℕ, ◌+◌, ◌≤◌, ◌<◌, refl, sym, ap, ◌∙◌, arith, Bool, true, false, not, ◌||◌, List, [], ◌∷◌, ◌++◌, map, length, get_or, append_assoc, length-append, leb}
+use Rattle.std.proofs.Common.{◌≡◌, ℕ, ◌+◌, ◌≤◌, ◌<◌, refl, sym, ap, ◌∙◌, Bool, true, false, not, ◌||◌, List, [], ◌∷◌, ◌++◌, map, length, get_or, append_assoc, leb}
 use Rattle.storage.specs.Lists.Base.{is_empty, concat_map}
 use Rattle.storage.proofs.ListsLaws.ListLaws.{concat-append, concat-one}
 use Rattle.postcard.specs.Number.{number_bytes}
@@ -20,7 +20,7 @@ use Rattle.steps.specs.declared.call.Call.{Call}
 use Rattle.block.specs.declared.links.NumberedLink.{NumberedLink}
 use Rattle.payloads.specs.declared.eager_push.target.Push.{Push}
 use Rattle.payloads.specs.Eager.Targets.{is_target}
-use Rattle.payloads.proofs.EagerLaws.TargetLaws.{Roomed, first, rest, first-none, first-in, first_out, first-all, first_rest, backs_to, backs-none, backs-held, backs-taken, backs-out, backs-all}
+use Rattle.payloads.proofs.EagerLaws.TargetLaws.{Roomed, first, first-none, first-in, first_out, first-all, backs_to, backs-none, backs-held, backs-taken, backs-out, backs-all}
 use Rattle.payloads.specs.EagerPush.Targets.{skipped_peers, push_targets, push_backs}
 use Rattle.payloads.specs.EagerPush.Sends.{gossip_value, sends_bytes, push_bytes}
 use Rattle.payloads.proofs.EagerPushLaws.TargetLaws.{link_peer, rest-roomed}

@@ -12,11 +12,11 @@ use crate::eager_push::target::{Push, hands_back};
 use arrayvec::ArrayVec;
 use block::head::MAX_LINKS;
 use block::note::NoteTable;
+use block::panel::{Panel, View};
 use postcard::units::Round;
 use protocol::{MAX_DROPPED, MAX_DROPPED_PER_PEER};
 use steps::call::Call;
-use steps::panel::Panel;
-use steps::view::View;
+use steps::note_these::note_these;
 use storage::rows::id::Id;
 
 // Whether a link hands the push back. Its time is that of one pass over the links.
@@ -51,14 +51,11 @@ fn marks_after(view: &View, from: [usize; MAX_LINKS], id: Id) -> [usize; MAX_LIN
     requires { AtRest (shown view.now) × (length from ≡ MAX_LINKS) }
     ensures { SeenFor (shown view.now) (length (shown view.now).links) (id_of id) from result }
 {
-    let head = view.head;
-    let block = view.block;
     let mut marks = from;
-    for i in 0..head.live.dropped {
-        let link = NoteTable::Record.link_at(head, block, i);
+    for row in 0..view.record_len() {
+        let link = view.note_link(NoteTable::Record, row);
         if marks[link] < MAX_DROPPED_PER_PEER {
-            let noted = NoteTable::Record.note_at(head, block, i);
-            let same = noted.id == id;
+            let same = view.recorded(row).id == id;
             marks[link] = if same {
                 MAX_DROPPED_PER_PEER
             } else {
@@ -83,9 +80,7 @@ pub fn to_note(view: &View, call: &Call, push: &Push, id: Id) -> ArrayVec<u8, MA
     }
     let marks = marks_after(view, first_marks(view, call, push), id);
     for link in 0..view.link_count() {
-        if marks[link] < MAX_DROPPED_PER_PEER
-            && view.head.live.dropped + noted.len() < MAX_DROPPED
-        {
+        if marks[link] < MAX_DROPPED_PER_PEER && view.record_len() + noted.len() < MAX_DROPPED {
             noted.push(link as u8);
         }
     }
@@ -99,5 +94,5 @@ pub fn note_back(panel: &mut Panel, call: &Call, push: &Push, id: Id, round: Rou
     ensures { Goes (back_state call.now push.now (id_of id) round.0) panel.old panel.new }
 {
     let noted = to_note(&panel.view(), call, push, id);
-    panel.note_these(&noted, id, round);
+    note_these(panel, &noted, id, round);
 }

@@ -8,9 +8,9 @@ ghost use Rattle.payloads.specs.EagerPush.Targets.{SkipThere, push_backs};
 ghost use Rattle.payloads.specs.EagerPush.Sends.{sends_bytes, push_bytes};
 
 use crate::eager_push::target::{Push, is_target};
+use block::panel::View;
 use steps::call::Call;
 use steps::schedule::schedule_announce_dropped;
-use steps::view::View;
 use wire::encode::Encode;
 use wire::encode::action::Send;
 use wire::encode::message::Gossip;

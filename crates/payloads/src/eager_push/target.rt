@@ -7,8 +7,8 @@ ghost use Rattle.block.specs.Panels.{AtRest};
 ghost use Rattle.payloads.specs.Eager.Targets.{is_target, hands_back};
 ghost use Rattle.payloads.specs.EagerPush.Targets.{skipped_peers, SkipThere};
 
+use block::panel::View;
 use steps::call::Call;
-use steps::view::View;
 
 // A push: its sender, and the grafted entry whose peers it skips; none in a broadcast.
 #[derive(Clone, Copy)]

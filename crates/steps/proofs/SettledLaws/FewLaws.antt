@@ -14,7 +14,7 @@ use Rattle.decide.proofs.SizesAfter.{down_sizes}
 use Rattle.decide.specs.Settled.{settled}
 use Rattle.decide.proofs.Decide.{Below, fit-below, down-below, evict-below}
 use Rattle.decide.proofs.TableSizes.{fits-sizes}
-use Rattle.steps.specs.Stands.{Stands}
+use Rattle.block.specs.Panels.{AtRest}
 use Rattle.steps.proofs.SettledLaws.SizeLaws.{sizes-live, sizes-still, sizes-evicted}
 
 -- within the ceilings
@@ -147,6 +147,6 @@ module _ (now : ℕ) (h : Head) (xs : List ℕ) (sound : Sound h xs) where
 pub fit-down : (p : ℕ) (h : Head) (xs : List ℕ) → Sound h xs → fit_sizes (limits_of h.limits) (down_sizes p (state_of h xs)) ≡ true
 fit-down p h xs sound = fit-below (limits_of h.limits) (down_sizes p (state_of h xs)) (sizes_of (state_of h xs)) (down-below p (state_of h xs)) (fit-now h xs sound)
 
--- what stands is whole
-pub stands-whole : (h : Head) (xs : List ℕ) → Stands h xs → whole (state_of h xs) ≡ true
-stands-whole h xs s = consistent-whole (state_of h xs) s.consistent s.ranged (sound-fits h xs s.sound)
+-- the state of a sound block, at rest, is whole
+pub rest-whole : (h : Head) (xs : List ℕ) → Sound h xs → AtRest (state_of h xs) → whole (state_of h xs) ≡ true
+rest-whole h xs sound r = consistent-whole (state_of h xs) r.consistent r.ranged (sound-fits h xs sound)

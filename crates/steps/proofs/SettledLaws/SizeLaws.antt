@@ -16,8 +16,7 @@ use Rattle.block.proofs.LinkLaws.{count-links}
 use Rattle.block.proofs.MissingLaws.{count-missing}
 use Rattle.block.proofs.TimerLaws.{count-timers}
 use Rattle.block.proofs.NoteLaws.{count-queue, count-dropped}
-use Rattle.block.specs.Caches.CachedReads.{cached_at, ContentIs}
-use Rattle.block.specs.declared.caches.cached.Extent.{Extent}
+use Rattle.block.specs.Caches.CachedReads.{cached_at}
 use Rattle.block.proofs.CachesLaws.ReceivedLaws.{count-received, count-received-rows}
 use Rattle.block.proofs.CachesLaws.CachedLaws.{count-cached, count-cached-rows}
 use Rattle.block.proofs.CachesLaws.GraftedLaws.{count-grafted, count-grafted-rows}
@@ -82,19 +81,14 @@ module _ (now : ℕ) (h : Head) (xs : List ℕ) (sound : Sound h xs) where
       start [] = refl
       start (x ∷ m) = refl
 
-  -- the length of a content
-  pub length-content : (i : ℕ) (r : Extent) → ContentIs h xs i r → length (cached_at (state_of h xs) i).content ≡ r.len
-  length-content i r c =
-      ap length c.same ∙ length_part (place (limits_of h.limits) 6 + r.start) r.len xs (omega (arith, c.within, sound.fit.within, sound.fit.long))
-
   module _ (i total : ℕ) (q : i < h.live.cached) (b : Bytes now h xs i total) (t : ℕ) (e : t ≡ (get_or es i no_cached).value.expires) where
     next : Bytes now h xs (i + 1) (total + later_bytes now (get_or es i no_cached))
     next =
         rw (add-one i) (ap (λ (n : ℕ). n + later_bytes now (get_or es i no_cached)) b ∙ sym (sum-next (later_bytes now) no_cached i es (omega (arith, count-cached h xs sound.fit))))
 
-    pub bytes-later : (r : Extent) → ContentIs h xs i r → ltb now t ≡ true → Bytes now h xs (i + 1) (total + r.len)
-    bytes-later r c k =
-        let f : later_bytes now (get_or es i no_cached) ≡ r.len = ap (λ (a : Bool). if a then length (cached_at (state_of h xs) i).content else 0) (sym (ap (ltb now) e) ∙ k) ∙ length-content i r c in
+    pub bytes-later : (content : List ℕ) → content ≡ (cached_at (state_of h xs) i).content → ltb now t ≡ true → Bytes now h xs (i + 1) (total + length content)
+    bytes-later content c k =
+        let f : later_bytes now (get_or es i no_cached) ≡ length content = ap (λ (a : Bool). if a then length (cached_at (state_of h xs) i).content else 0) (sym (ap (ltb now) e) ∙ k) ∙ sym (ap length c) in
         ap (λ (n : ℕ). total + n) (sym f) ∙ next
 
     pub bytes-gone : ltb now t ≡ false → Bytes now h xs (i + 1) total

@@ -1,13 +1,26 @@
 -- Numbers as bytes, at every width: the round trips, the bounds, and the steps that a loop takes.
 -- Assumes nothing.
-use Rattle.std.proofs.Common.{◌≡◌, refl, sym, ap, ◌∙◌, List, [], ◌∷◌, ◌++◌, append_assoc, append-nil, ℕ, zero, suc, ◌+◌, ◌*◌, ◌/◌, ◌%◌, ◌^◌, ◌≤◌, ◌<◌, zero-add, add-zero, mul-one, mul_comm, mul_assoc, pow-suc, div-one, add-mul, add_comm, mul-le-mul_right, add-suc, add-one, arith, length, get_or, length-append}
+use Rattle.std.proofs.Common.{◌≡◌, refl, sym, ap, ◌∙◌, List, [], ◌∷◌, ◌++◌, append_assoc, append-nil, ℕ, zero, suc, ◌+◌, ◌*◌, ◌/◌, ◌%◌, ◌^◌, ◌≤◌, ◌<◌, zero-add, add-zero, mul-one, mul_comm, mul_assoc, pow-suc, div-one, add-mul, add_comm, mul-le-mul_right, add-suc, add-one, arith, length, get_or, take, drop, get_or-drop, subst, length-append}
 use native.Mathlib.Nat.{div-div-eq-div-mul}
 use lib.Arith.{digits_div}
+use lib.Dec.{lit<}
+use Rattle.storage.specs.Rows.Part.{part}
 use Rattle.storage.specs.Rows.Digits.{le_nat, le_bytes, be_from, be_nat, be_bytes}
 
 -- every element is a byte
 abbrev pub Bytes : List ℕ → Type 0
 Bytes bs = (i : ℕ) → get_or bs i 0 < 256
+
+-- a part of bytes is bytes
+bytes_take : (k : ℕ) (l : List ℕ) → Bytes l → Bytes (take k l)
+bytes_take zero l h i = lit< tt
+bytes_take (suc k) [] h i = lit< tt
+bytes_take (suc k) (x ∷ xs) h zero = h 0
+bytes_take (suc k) (x ∷ xs) h (suc i) = bytes_take k xs (λ j. h (suc j)) i
+
+pub part_bytes : (a k : ℕ) (b : List ℕ) → Bytes b → Bytes (part a k b)
+unfolding part
+part_bytes a k b h = bytes_take k (drop a b) (λ i. subst (λ (n : ℕ). n < 256) (sym (get_or-drop a b i 0)) (h (a + i)))
 
 pub length-le_bytes : (k v : ℕ) → length (le_bytes k v) ≡ k
 unfolding le_bytes

@@ -8,8 +8,7 @@ use Rattle.storage.specs.Lists.Map.{Entry, entry}
 use Rattle.storage.proofs.ListsLaws.ListLaws.{concat-append, concat-one}
 use Rattle.storage.specs.Rows.Part.{part, put}
 use Rattle.storage.specs.Rows.Digits.{le_nat, le_bytes}
-use Rattle.storage.proofs.RowsLaws.Digits.{Bytes, le_nat-le_bytes, le_nat-below, le_bytes-le_nat}
-use Rattle.storage.proofs.RowsLaws.Turns.{part_bytes}
+use Rattle.storage.proofs.RowsLaws.Digits.{Bytes, le_nat-le_bytes, le_nat-below, le_bytes-le_nat, part_bytes}
 use Rattle.storage.proofs.RowsLaws.Parts.{length_part, length-put, part-before, part-after, part-part, part-add, part-put-in, get_d_part, get_or-put-in, get_or-put-before, get_or-put-after}
 use Rattle.storage.proofs.RefsLaws.Shifts.{low_or_high}
 use Rattle.whole.specs.States.Kept.{Kept}

@@ -1,6 +1,6 @@
 -- An IHave written: its beginning, then its announcements one by one.
 -- Assumes nothing.
-use Rattle.std.proofs.Common.{◌≡◌, ℕ, true, List, [], ◌∷◌, ◌++◌, length, length-append, sym, ap, ◌∙◌, arith}
+use Rattle.std.proofs.Common.{◌≡◌, ℕ, true, List, [], ◌∷◌, ◌++◌, sym, ap, ◌∙◌}
 use Rattle.storage.specs.Lists.Base.{concat_map}
 use Rattle.postcard.specs.Message.{Ihave, IHave, ihave_bytes, message_bytes}
 use Rattle.postcard.specs.Output.{ihave_head}

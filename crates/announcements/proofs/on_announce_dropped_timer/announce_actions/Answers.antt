@@ -1,23 +1,16 @@
 -- `announce_actions` meets its contract: dispatch if a queue stands, then itself if a record does.
-use Rattle.std.proofs.Common.{refl, ◌≡◌, ◌++◌, ◌∙◌, sym, ap, length, arith, List, ℕ, true, false, Bool, length-append}
+use Rattle.std.proofs.Common.{◌≡◌, ◌++◌, ◌∙◌, sym, ap, List, ℕ, false, Bool}
 use Rattle.storage.specs.Lists.Base.{concat_map}
 use Rattle.postcard.specs.Message.{action_bytes}
 use Rattle.decide.specs.RecordGrowth.{announce_action}
 use Rattle.decide.specs.Settled.{settled}
 use Rattle.wire.specs.Encode.Intake.{after}
-use Rattle.wire.proofs.EncodeLaws.IntakeLaws.{after_append, room_after}
+use Rattle.wire.proofs.EncodeLaws.IntakeLaws.{after_append}
 use Rattle.block.specs.Views.{shown}
-use Rattle.announcements.specs.OnAnnounceDroppedTimer.{announce_bytes, record_stands}
+use Rattle.announcements.specs.OnAnnounceDroppedTimer.{announce_bytes}
 use Rattle.announcements.proofs.OnAnnounceDroppedTimerLaws.{stands-bytes, queue_bytes, none-after}
 use Rattle.announcements.proofs.on_announce_dropped_timer.announce_actions.Goals as goal
 use Rattle.announcements.proofs.on_announce_dropped_timer.announce_actions.Goals.{After-record_stands-stands, then-queue_stands, else-queue_stands}
-
-pub schedule_dispatch-requires : goal.schedule_dispatch-requires
-schedule_dispatch-requires g c =
-    let s = shown c.args.view.now in
-    let now = c.args.call.now.instant.0 in
-    let e = stands-bytes now s true (record_stands (settled now s)) (sym c.if-queue_stands.true ∙ c.queue_stands.ensures) refl in
-    omega (arith, c.requires.room, ap length e, length-append (queue_bytes s true) (concat_map action_bytes (announce_action (record_stands (settled now s)) false)))
 
 -- the dispatch timer, if a queue stands
 first : (g : _) (c : After-record_stands-stands g) → g.S.Sink.intake c.if-queue_stands.out ≡ after (queue_bytes (shown c.args.view.now) c.queue_stands.result) (g.S.Sink.intake c.args.out.now)
@@ -34,13 +27,6 @@ both : (g : _) (c : After-record_stands-stands g)
     → announce_bytes (settled c.args.call.now.instant.0 (shown c.args.view.now))
     ≡ queue_bytes (shown c.args.view.now) c.queue_stands.result ++ concat_map action_bytes (announce_action c.record_stands-stands.result false)
 both g c = stands-bytes c.args.call.now.instant.0 (shown c.args.view.now) c.queue_stands.result c.record_stands-stands.result c.queue_stands.ensures c.record_stands-stands.ensures
-
-pub schedule_announce_dropped-requires : goal.schedule_announce_dropped-requires
-schedule_announce_dropped-requires g c =
-    let d = (goal.at.schedule_announce_dropped-requires g c).After-record_stands-stands in
-    let a = queue_bytes (shown c.args.view.now) c.queue_stands.result in
-    let b = concat_map action_bytes (announce_action c.record_stands-stands.result false) in
-    rw (first g d) (rw (room_after a (g.S.Sink.intake c.args.out.now)) (omega (arith, c.requires.room, ap length (both g d), length-append a b)))
 
 pub returns : goal.returns
 returns g c =

@@ -31,10 +31,10 @@ module _ (d : After-recorded-note) where
   s = shown d.args.view.now
 
   low : d.loop-row.row < length s.dropped
-  low = let v = d.args.view.now in omega (arith, d.loop-row-test.true, count-dropped v.head v.block.now v.sound)
+  low = let v = d.args.view.now in omega (arith, d.loop-row-test.true, count-dropped v.head.now v.block.now v.sound)
 
   few : length s.links ≤ 32
-  few = links-few d.args.view.now.head d.args.view.now.block.now d.args.view.now.sound
+  few = links-few d.args.view.now.head.now d.args.view.now.block.now d.args.view.now.sound
 
   read : Read (held_then d.args.call.now.instant.0 s) (keys s.links) s.dropped d.loop-row.row d.loop-row.passed.counts d.recorded-note.result.link (id_of d.recorded-note.result.id) d.recorded-note.result.round.0
   read = entry (held_then d.args.call.now.instant.0 s) s d.requires few d.loop-row.row d.loop-row.passed.counts d.loop-row.invariant.passing low d.recorded-note.result d.recorded-note.ensures
@@ -45,7 +45,7 @@ module _ (d : After-recorded-note) where
       omega (arith, d.loop-row.invariant.moved, d.loop-row.invariant.left, passed-few (held_then d.args.call.now.instant.0 s) s d.requires d.loop-row.row d.loop-row.passed.counts d.loop-row.invariant.passing)
 
 pub recorded-note-requires : goal.recorded-note-requires
-recorded-note-requires c = let v = c.args.view.now in omega (arith, c.loop-row-test.true, count-dropped v.head v.block.now v.sound)
+recorded-note-requires c = let v = c.args.view.now in omega (arith, c.loop-row-test.true, count-dropped v.head.now v.block.now v.sound)
 
 pub loop-row-preserved-then-not-is_cached_then : goal.loop-row-preserved-then-not-is_cached_then
 loop-row-preserved-then-not-is_cached_then c =
@@ -85,7 +85,7 @@ overflow_add-sizes c =
       c.loop-row.invariant.moved,
       passed-few (held_then now (shown v)) (shown v) c.requires c.loop-row.row c.loop-row.passed.counts c.loop-row.invariant.passing,
       queued-of now (shown v) c.sizes_then-sizes.result c.sizes_then-sizes.ensures,
-      count-queue v.head v.block.now v.sound,
+      count-queue v.head.now v.block.now v.sound,
       v.sound.fit.within.queued,
       v.sound.fit.ceilings.Q,
     )
@@ -95,7 +95,7 @@ returns c =
     let v = c.args.view.now in
     sized-end c.args.call.now.instant.0 (shown v) c.loop-row.row c.loop-row.moved c.loop-row.left c.sizes_then-sizes.result.queued (sizes_value c.sizes_then-sizes.result) c.sizes_then-sizes.ensures
     (queued-of c.args.call.now.instant.0 (shown v) c.sizes_then-sizes.result c.sizes_then-sizes.ensures)
-    (omega (arith, c.loop-row-test.false, count-dropped v.head v.block.now v.sound)) c.loop-row.invariant.moved c.loop-row.invariant.left
+    (omega (arith, c.loop-row-test.false, count-dropped v.head.now v.block.now v.sound)) c.loop-row.invariant.moved c.loop-row.invariant.left
 
 pub loop-row-preserved : goal.loop-row-preserved
 loop-row-preserved c =

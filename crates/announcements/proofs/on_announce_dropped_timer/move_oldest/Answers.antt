@@ -94,12 +94,12 @@ is_oldest-requires-clause-few c =
     let d = (goal.at.is_oldest-requires-clause-few c).After-recorded-note in
     seen-small (held_now (s d)) (s d) c.requires.rest (few d) c.loop-row.row c.loop-row.passed.counts c.loop-row.invariant.passing (low d) c.recorded-note.result (row d)
 
-pub push_queued-requires-clause-room : goal.push_queued-requires-clause-room
-push_queued-requires-clause-room c =
-    let d = (goal.at.push_queued-requires-clause-room c).After-recorded-note in
+pub push_note-requires-clause-room : goal.push_note-requires-clause-room
+push_note-requires-clause-room c =
+    let d = (goal.at.push_note-requires-clause-room c).After-recorded-note in
     let seen = get_or c.loop-row.passed.counts c.recorded-note.result.link 0 in
     move-room (s d) c.requires c.loop-row.row (q d) c.loop-row.invariant.goes.state (within d) c.loop-row.passed.counts c.recorded-note.result (read d) (row d)
-    (held (goal.at.push_queued-requires-clause-room c).After-is_cached true (not-false c.is_cached.result (ap not c.if-not-is_cached.false))) (ltb-true seen 64 (sym c.is_oldest.ensures.oldest ∙ c.if-is_oldest.true))
+    (held (goal.at.push_note-requires-clause-room c).After-is_cached true (not-false c.is_cached.result (ap not c.if-not-is_cached.false))) (ltb-true seen 64 (sym c.is_oldest.ensures.oldest ∙ c.if-is_oldest.true))
 
 pub set_dropped-requires : goal.set_dropped-requires
 set_dropped-requires c =
@@ -131,9 +131,9 @@ loop-row-preserved c =
         | then-is_oldest w ↦
             let m : seen < 64 = ltb-true seen 64 (sym c.is_oldest.ensures.oldest ∙ w.if-is_oldest.true) in
             rw w.panel-is (record {
-              state = w.push_queued.ensures.state
+              state = w.push_note.ensures.state
                   ∙ move-take z c.requires i (q d) so (within d) c.loop-row.passed.counts n (read d) (row d) e m;
-              loan = w.push_queued.ensures.loan ∙ c.loop-row.invariant.goes.loan;
+              loan = w.push_note.ensures.loan ∙ c.loop-row.invariant.goes.loan;
             })
         | else-is_oldest w ↦
             let m : 64 ≤ seen = ltb-false seen 64 (sym c.is_oldest.ensures.oldest ∙ w.if-is_oldest.false) in

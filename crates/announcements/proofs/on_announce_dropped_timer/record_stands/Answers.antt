@@ -17,7 +17,7 @@ use Rattle.announcements.proofs.on_announce_dropped_timer.record_stands.Goals.{A
 pub returns-then-view-le-DROPPED_PER_TICK : goal.returns-then-view-le-DROPPED_PER_TICK
 returns-then-view-le-DROPPED_PER_TICK c =
     let v = c.args.view.now in
-    record-none c.args.call.now.instant.0 (shown v) (omega (arith, c.if-view-le-DROPPED_PER_TICK.true, count-dropped v.head v.block.now v.sound))
+    record-none c.args.call.now.instant.0 (shown v) (omega (arith, c.if-view-le-DROPPED_PER_TICK.true, count-dropped v.head.now v.block.now v.sound))
 
 pub loop-row-init : goal.loop-row-init
 loop-row-init c =
@@ -31,16 +31,16 @@ module _ (d : After-recorded-note) where
   s = shown d.args.view.now
 
   low : d.loop-row.row < length s.dropped
-  low = let v = d.args.view.now in omega (arith, d.loop-row-test.true, count-dropped v.head v.block.now v.sound)
+  low = let v = d.args.view.now in omega (arith, d.loop-row-test.true, count-dropped v.head.now v.block.now v.sound)
 
   few : length s.links ≤ 32
-  few = links-few d.args.view.now.head d.args.view.now.block.now d.args.view.now.sound
+  few = links-few d.args.view.now.head.now d.args.view.now.block.now d.args.view.now.sound
 
   read : Read (held_then d.args.call.now.instant.0 s) (keys s.links) s.dropped d.loop-row.row d.loop-row.passed.counts d.recorded-note.result.link (id_of d.recorded-note.result.id) d.recorded-note.result.round.0
   read = entry (held_then d.args.call.now.instant.0 s) s d.requires few d.loop-row.row d.loop-row.passed.counts d.loop-row.invariant.passing low d.recorded-note.result d.recorded-note.ensures
 
 pub recorded-note-requires : goal.recorded-note-requires
-recorded-note-requires c = let v = c.args.view.now in omega (arith, c.loop-row-test.true, count-dropped v.head v.block.now v.sound)
+recorded-note-requires c = let v = c.args.view.now in omega (arith, c.loop-row-test.true, count-dropped v.head.now v.block.now v.sound)
 
 pub loop-row-preserved-then-not-is_cached_then : goal.loop-row-preserved-then-not-is_cached_then
 loop-row-preserved-then-not-is_cached_then c =
@@ -93,4 +93,4 @@ loop-row-preserved c =
 pub returns : goal.returns
 returns c =
     let v = c.args.view.now in
-    record-end c.args.call.now.instant.0 (shown v) c.loop-row.row (omega (arith, c.loop-row-test.false, count-dropped v.head v.block.now v.sound)) c.loop-row.invariant.none
+    record-end c.args.call.now.instant.0 (shown v) c.loop-row.row (omega (arith, c.loop-row-test.false, count-dropped v.head.now v.block.now v.sound)) c.loop-row.invariant.none

@@ -15,7 +15,7 @@ pub overflow_add-sizes : goal.overflow_add-sizes
 overflow_add-sizes c =
     let v = c.args.view.now in
     let now = c.args.call.now.instant.0 in
-    omega (arith, recorded-of (settled now (shown v)) c.sizes_then-sizes.result c.sizes_then-sizes.ensures, ap length (same_dropped now (shown v)), record-few v.head v.block.now v.sound, c.dispatch_notes.ensures.few)
+    omega (arith, recorded-of (settled now (shown v)) c.sizes_then-sizes.result c.sizes_then-sizes.ensures, ap length (same_dropped now (shown v)), record-few v.head.now v.block.now v.sound, c.dispatch_notes.ensures.few)
 
 pub returns-then-may_hand_back : goal.returns-then-may_hand_back
 returns-then-may_hand_back c =
@@ -37,7 +37,7 @@ returns-else-may_hand_back c =
     let n : length t.dropped ≡ length (after_dispatch c.args.call.now t).dropped = omega (
       arith,
       ap length (same_dropped now s),
-      ap length (settled-dropped now c.args.call.now s ∙ none-noted (held_then now s) c.args.call.now s c.requires (queue-few v.head v.block.now v.sound) (c.may_hand_back.ensures c.if-may_hand_back.false)),
+      ap length (settled-dropped now c.args.call.now s ∙ none-noted (held_then now s) c.args.call.now s c.requires (queue-few v.head.now v.block.now v.sound) (c.may_hand_back.ensures c.if-may_hand_back.false)),
     ) in
     ap (sized_queued 0) (c.sizes_then-sizes.ensures ∙ recorded-same t)
     ∙ ap (λ (k : ℕ). sized_queued 0 (sized_recorded k (sizes_of t))) n

@@ -1,8 +1,8 @@
 -- `ihave_actions`: after i entries the timers of the first i are written.
-use Rattle.std.proofs.Common.{ℕ, ◌+◌, ◌≡◌, ◌<◌, ◌≤◌, true, false, Bool, List, [], ◌∷◌, ◌++◌, ap, sym, ◌∙◌, arith, take, length, subst, rules}
+use Rattle.std.proofs.Common.{ℕ, ◌+◌, ◌≡◌, ◌<◌, true, false, Bool, List, [], ◌∷◌, ◌++◌, ap, sym, ◌∙◌, arith, take, rules}
 use Rattle.postcard.specs.Message.{Ihave, Scheduled, SendGraft, action_bytes}
 use Rattle.postcard.specs.Values.{ihave_value}
-use Rattle.wire.specs.Encode.Intake.{after, space_of}
+use Rattle.wire.specs.Encode.Intake.{after}
 use Rattle.wire.specs.Reader.Values.{ihaves_value}
 use Rattle.wire.proofs.ReaderLaws.AnnouncedLaws.{announced_count}
 use Rattle.protocol.specs.State.{State}
@@ -10,7 +10,7 @@ use Rattle.decide.specs.Settled.{settled}
 use Rattle.decide.specs.NewIds.{known_timer}
 use Rattle.block.specs.Views.{shown}
 use Rattle.announcements.specs.Ihaves.New.{is_new}
-use Rattle.announcements.proofs.OnIhaveLaws.{schedule-start, schedule-end, schedule-skip, schedule-next, schedule-room, then-delay}
+use Rattle.announcements.proofs.OnIhaveLaws.{schedule-start, schedule-end, schedule-skip, schedule-next, then-delay}
 use Rattle.announcements.proofs.IhavesLaws.WalkLaws.{after_none, after-end, after-taken, after-next, after-below}
 use Rattle.announcements.proofs.on_ihave.ihave_actions.Goals as goal
 use Rattle.announcements.proofs.on_ihave.ihave_actions.Goals.{In-Some, After-gets_timer, then-gets_timer, else-gets_timer}
@@ -49,15 +49,8 @@ module _ (g : _) (d : After-gets_timer g) where
   wants : (b : Bool) → d.gets_timer.result ≡ b → is_new (known_timer t) (take d.loop-ihave.i all) x.id ≡ b
   wants b e = ap (λ (l : List Ihave). is_new (known_timer t) l x.id) (sym d.first.ensures) ∙ sym d.gets_timer.ensures ∙ e
 
-  same-delay : t.settings.graft_timeout_1 ≡ d.args.view.now.head.settings.config.graft_timeout_1.0
-  same-delay = then-delay d.args.call.now.instant.0 d.args.view.now.head d.args.view.now.block.now
-
-pub encode-requires : goal.encode-requires
-encode-requires g c =
-    let d = (goal.at.encode-requires g c).After-gets_timer in
-    let l = c.loop-ihave in
-    subst (λ (n : ℕ). length (action_bytes (Scheduled n (SendGraft (x g d).id))) ≤ space_of (g.S.Sink.intake l.out)) (same-delay g d)
-    (schedule-room (t g d) (all g d) (g.S.Sink.intake c.args.out.now) l.i (g.S.Sink.intake l.out) l.invariant.so (x g d) (taken g d) (wants g d true c.if-gets_timer.true) c.requires.room)
+  same-delay : t.settings.graft_timeout_1 ≡ d.args.view.now.head.now.settings.config.graft_timeout_1.0
+  same-delay = then-delay d.args.call.now.instant.0 d.args.view.now.head.now d.args.view.now.block.now
 
 pub loop-ihave-preserved : goal.loop-ihave-preserved
 loop-ihave-preserved g c =

@@ -1,11 +1,11 @@
 -- `send_graft_actions` meets its contract: none of a message that is received or that nobody announced, and else the Graft, then the timer.
-use Rattle.std.proofs.Common.{Some, arith, sym, ap, ◌∙◌, ◌≡◌, ◌++◌, ℕ, List, length, length-append}
+use Rattle.std.proofs.Common.{Some, arith, sym, ap, ◌∙◌, ◌≡◌, ◌++◌, ℕ, List}
 use Rattle.storage.specs.Rows.Ident.{id_of}
 use Rattle.postcard.specs.Message.{Graft, Scheduled, SendGraft, message_bytes, action_bytes}
 use Rattle.postcard.specs.Output.{send_head}
 use Rattle.decide.specs.Settled.{settled}
 use Rattle.wire.specs.Encode.Intake.{after}
-use Rattle.wire.proofs.EncodeLaws.IntakeLaws.{after_append, after_nil, room_after}
+use Rattle.wire.proofs.EncodeLaws.IntakeLaws.{after_append, after_nil}
 use Rattle.block.specs.Views.{shown}
 use Rattle.block.specs.declared.links.NumberedLink.{NumberedLink}
 use Rattle.block.proofs.ViewLaws.{links-few}
@@ -28,7 +28,7 @@ pub announcer-first-requires : goal.announcer-first-requires
 announcer-first-requires g c = (c.in-Some.ensures.below, some-hops (shown c.args.view.now) c.in-Some.entry c.requires.rest c.in-Some.ensures.below)
 
 pub takes-taken-requires : goal.takes-taken-requires
-takes-taken-requires g c = omega (arith, c.announcer-first.ensures.below, links-few c.args.view.now.head c.args.view.now.block.now c.args.view.now.sound)
+takes-taken-requires g c = omega (arith, c.announcer-first.ensures.below, links-few c.args.view.now.head.now c.args.view.now.block.now c.args.view.now.sound)
 
 -- the bytes of the two actions
 module _ (g : _) (c : After-takes-taken g) where
@@ -36,23 +36,13 @@ module _ (g : _) (c : After-takes-taken g) where
   first = send_head c.link-peer.result.peer c.takes-taken.result ++ message_bytes (Graft (Some (id_of c.args.id)) c.announcer-first.result.round.0)
 
   abbrev second : List ℕ
-  second = action_bytes (Scheduled c.args.view.now.head.settings.config.graft_timeout_2.0 (SendGraft (id_of c.args.id)))
+  second = action_bytes (Scheduled c.args.view.now.head.now.settings.config.graft_timeout_2.0 (SendGraft (id_of c.args.id)))
 
   both : send_graft_bytes c.args.call.now c.args.id (settled c.args.call.now.instant.0 (shown c.args.view.now)) ≡ first ++ second
   both =
       let v = c.args.view.now in
-      bytes-asked c.args.call.now c.args.id v.head v.block.now c.requires.rest c.in-Some.entry c.in-Some.ensures c.announcer-first.result c.announcer-first.ensures c.link-peer.result.peer c.takes-taken.result
+      bytes-asked c.args.call.now c.args.id v.head.now v.block.now c.requires.rest c.in-Some.entry c.in-Some.ensures c.announcer-first.result c.announcer-first.ensures c.link-peer.result.peer c.takes-taken.result
       (sym c.is_received_then.ensures ∙ c.if-is_received_then.false) (ap (λ (x : Link). x.peer) c.link-peer.ensures) c.takes-taken.ensures
-
-pub encode-requires : goal.encode-requires
-encode-requires g c =
-    let d = (goal.at.encode-requires g c).After-takes-taken in
-    omega (arith, c.requires.room, ap length (both g d), length-append (first g d) (second g d))
-
-pub encode-requires-2 : goal.encode-requires-2
-encode-requires-2 g c =
-    let d = (goal.at.encode-requires-2 g c).After-takes-taken in
-    rw c.encode.ensures (rw (room_after (first g d) (g.S.Sink.intake c.args.out.now)) (omega (arith, c.requires.room, ap length (both g d), length-append (first g d) (second g d))))
 
 pub returns : goal.returns
 returns g c =

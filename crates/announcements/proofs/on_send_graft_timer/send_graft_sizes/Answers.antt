@@ -56,13 +56,13 @@ pub overflow_add-sizes : goal.overflow_add-sizes
 overflow_add-sizes c =
     let v = c.args.view.now in
     let fit = v.sound.fit in
-    omega (arith, (sized-few c.args.call.now.instant.0 (id_of c.args.id) (shown v) c.requires c.sizes_then-sizes.result c.sizes_then-sizes.ensures).0, count-grafted v.head v.block.now fit, fit.within.grafted, fit.ceilings.G)
+    omega (arith, (sized-few c.args.call.now.instant.0 (id_of c.args.id) (shown v) c.requires c.sizes_then-sizes.result c.sizes_then-sizes.ensures).0, count-grafted v.head.now v.block.now fit, fit.within.grafted, fit.ceilings.G)
 
 pub overflow_add-sizes-2 : goal.overflow_add-sizes-2
 overflow_add-sizes-2 c =
     let v = c.args.view.now in
     let fit = v.sound.fit in
-    omega (arith, (sized-few c.args.call.now.instant.0 (id_of c.args.id) (shown v) c.requires c.sizes_then-sizes.result c.sizes_then-sizes.ensures).1, count-grafted-rows v.head v.block.now fit, fit.within.grafted_rows, fit.ceilings.G)
+    omega (arith, (sized-few c.args.call.now.instant.0 (id_of c.args.id) (shown v) c.requires c.sizes_then-sizes.result c.sizes_then-sizes.ensures).1, count-grafted-rows v.head.now v.block.now fit, fit.within.grafted_rows, fit.ceilings.G)
 
 pub returns : goal.returns
 returns c =

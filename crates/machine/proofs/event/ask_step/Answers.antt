@@ -7,7 +7,6 @@ use Rattle.protocol.specs.Answer.{accepted}
 use Rattle.steps.proofs.SettledLaws.SizeLaws.{yes, no}
 use Rattle.steps.specs.Calls.{rooms_of}
 use Rattle.block.specs.Views.{shown}
-use Rattle.steps.proofs.AtRestLaws.{stands_of}
 use Rattle.machine.proofs.BoundsLaws.StepTold.{step-length}
 use Rattle.machine.specs.Called.{counts_of}
 use Rattle.machine.specs.Steps.{after_event, event_bytes}
@@ -23,7 +22,7 @@ pub size-length-requires : goal.size-length-requires
 size-length-requires c =
     let v = c.args.view.now in
     let k = c.args.call.now in
-    omega (arith, step-length v.head v.block.now (rooms_of k (shown v)) k.instant.0 c.args.step (stands_of v.head v.block.now v.sound c.requires.named.rest) c.requires.named.held)
+    omega (arith, step-length v.head.now v.block.now (rooms_of k (shown v)) k.instant.0 c.args.step v.sound c.requires.named.held)
 
 pub returns-then-is_far : goal.returns-then-is_far
 returns-then-is_far c = record {

@@ -12,7 +12,6 @@ use Rattle.block.specs.View.{state_of}
 use Rattle.block.specs.declared.head.Head.{Head}
 use Rattle.whole.specs.Held.{held}
 use Rattle.block.specs.Panels.{AtRest}
-use Rattle.steps.proofs.AtRestLaws.{rest_of}
 use Rattle.machine.specs.Called.{counts_of, call_of, lent}
 use Rattle.machine.specs.Core.{core_rooms}
 use Rattle.machine.specs.Steps.{Keeps}
@@ -37,7 +36,7 @@ sound c = subst (λ (h : Head). Sound h c.args.block.now) (sym c.load_head-head.
 rest : (c : After-load_head-head) → AtRest (state_of c.load_head-head.result c.args.block.now)
 rest c =
     let r = reads (goal.at.After-load_head-head c).In_ok-event in
-    subst (λ (h : Head). AtRest (state_of h c.args.block.now)) (sym c.load_head-head.ensures) (rest_of _ c.args.block.now (begun-of c.args.block.now r.wholly c.args.asked.instant.0 r.early).stands)
+    subst (λ (h : Head). AtRest (state_of h c.args.block.now)) (sym c.load_head-head.ensures) (begun-of c.args.block.now r.wholly c.args.asked.instant.0 r.early).rest
 
 pub returns-in_err-event-clause-refused : goal.returns-in_err-event-clause-refused
 returns-in_err-event-clause-refused c =

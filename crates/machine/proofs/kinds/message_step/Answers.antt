@@ -42,7 +42,7 @@ returns-in-Graft-Some c =
     let d = (goal.at.returns-in-Graft-Some c).After-find_link in
     let a = c.args in
     let i = c.in-Graft-Some in
-    of d i.is-0 (means-graft a.call.now.instant.0 (shown a.view.now) a.sender i.link c.requires.0.consistent.core (found d i.is-1) i.wanted i.round-0.0)
+    of d i.is-0 (means-graft a.call.now.instant.0 (shown a.view.now) a.sender i.link c.requires.0.consistent.core (found d i.is-1) i.graft.wanted i.graft.round.0)
 
 pub returns-in_default-None : goal.returns-in_default-None
 returns-in_default-None c =

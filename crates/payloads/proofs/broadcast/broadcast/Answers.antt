@@ -16,13 +16,13 @@ pub lazy_push-requires : goal.lazy_push-requires
 lazy_push-requires c =
     let a = c.args in
     let p = a.panel.now in
-    lazy-asks a.call.now a.id a.content.now (state p) c.requires.0 p.head.settings.me (own-number p.head p.block.now) (state c.take_in.new.self) c.take_in.ensures.state
+    lazy-asks a.call.now a.id a.content.now (state p) c.requires.0 p.head.settings.me (own-number p.head p.block.now) (state c.take_in.new.panel) c.take_in.ensures.state
 
 pub note_back-requires : goal.note_back-requires
 note_back-requires c =
     let a = c.args in
     let p = a.panel.now in
-    back-asks a.call.now a.id a.content.now (state p) c.requires.0 p.head.settings.me (own-number p.head p.block.now) (state c.lazy_push.new.self)
+    back-asks a.call.now a.id a.content.now (state p) c.requires.0 p.head.settings.me (own-number p.head p.block.now) (state c.lazy_push.new.panel)
     (c.lazy_push.ensures.state ∙ ap (lazy_state (id_of a.id) 0 p.head.settings.me) c.take_in.ensures.state)
 
 pub returns : goal.returns
@@ -30,7 +30,7 @@ returns c =
     let a = c.args in
     let p = a.panel.now in
     record {
-      state = end-is a.call.now a.id a.content.now (state p) c.requires.0 p.head.settings.me (own-number p.head p.block.now) (state c.lazy_push.new.self) (state c.note_back.new.panel)
+      state = end-is a.call.now a.id a.content.now (state p) c.requires.0 p.head.settings.me (own-number p.head p.block.now) (state c.lazy_push.new.panel) (state c.note_back.new.panel)
           (c.lazy_push.ensures.state ∙ ap (lazy_state (id_of a.id) 0 p.head.settings.me) c.take_in.ensures.state) c.note_back.ensures.state;
       loan = c.note_back.ensures.loan ∙ c.lazy_push.ensures.loan ∙ c.take_in.ensures.loan;
     }

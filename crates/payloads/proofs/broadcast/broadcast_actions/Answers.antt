@@ -1,20 +1,9 @@
 -- `broadcast_actions` meets its contract: a dispatch timer and the push.
 use Rattle.block.specs.View.{state_of}
 use Rattle.block.specs.Views.{shown}
-use Rattle.payloads.proofs.AfterLaws.{room-first, room-then, after-both}
+use Rattle.payloads.proofs.AfterLaws.{after-both}
 use Rattle.payloads.proofs.BroadcastLaws.{broadcast-parts}
 use Rattle.payloads.proofs.broadcast.broadcast_actions.Goals as goal
-
-pub schedule_dispatch-requires : goal.schedule_dispatch-requires
-schedule_dispatch-requires g c =
-    let a = c.args in
-    room-first _ _ _ (broadcast-parts a.call.now a.id a.content.now a.call.now.instant.0 (shown a.view.now)) _ c.requires.room
-
-pub eager_push-requires-clause-room : goal.eager_push-requires-clause-room
-unfolding state_of
-eager_push-requires-clause-room g c =
-    let a = c.args in
-    room-then _ _ _ (broadcast-parts a.call.now a.id a.content.now a.call.now.instant.0 (shown a.view.now)) _ _ c.schedule_dispatch.ensures c.requires.room
 
 pub returns : goal.returns
 unfolding state_of

@@ -10,33 +10,33 @@ overflow_add-sizes c =
     let a = c.args in
     let m = a.message.now in
     let v = a.view.now in
-    omega (arith, c.lazy_count.ensures.few, (taken-few a.call.now.instant.0 (id_of m.id) m.content.now 0 v.head v.block.now c.taken_sizes-sizes.result (c.taken_sizes-sizes.ensures 0) v.sound).0)
+    omega (arith, c.lazy_count.ensures.few, (taken-few a.call.now.instant.0 (id_of m.id) m.content.now 0 v.head.now v.block.now c.taken_sizes-sizes.result (c.taken_sizes-sizes.ensures 0) v.sound).0)
 
 pub overflow_add-sizes-2 : goal.overflow_add-sizes-2
 overflow_add-sizes-2 c =
     let a = c.args in
     let m = a.message.now in
     let v = a.view.now in
-    omega (arith, c.len.ensures.value, c.to_note.ensures.few, (taken-few a.call.now.instant.0 (id_of m.id) m.content.now 0 v.head v.block.now c.taken_sizes-sizes.result (c.taken_sizes-sizes.ensures 0) v.sound).1)
+    omega (arith, c.len.ensures.value, c.to_note.ensures.few, (taken-few a.call.now.instant.0 (id_of m.id) m.content.now 0 v.head.now v.block.now c.taken_sizes-sizes.result (c.taken_sizes-sizes.ensures 0) v.sound).1)
 
 pub overflow_sub-sizes : goal.overflow_sub-sizes
 overflow_sub-sizes c =
     let a = c.args in
     let m = a.message.now in
     let v = a.view.now in
-    missing-fewer a.call.now m v.head v.block.now c.requires c.grafted_entry_then-skip.result c.grafted_entry_then-skip.ensures c.taken_sizes-sizes.result (c.taken_sizes-sizes.ensures (suc m.round.0)) c.is_missing.result c.is_missing.ensures
+    missing-fewer a.call.now m v.head.now v.block.now c.requires c.grafted_entry_then-skip.result c.grafted_entry_then-skip.ensures c.taken_sizes-sizes.result (c.taken_sizes-sizes.ensures (suc m.round.0)) c.is_missing.result c.is_missing.ensures
 
 pub overflow_sub-sizes-2 : goal.overflow_sub-sizes-2
 overflow_sub-sizes-2 c =
     let a = c.args in
     let m = a.message.now in
     let v = a.view.now in
-    timers-fewer a.call.now m v.head v.block.now c.requires c.grafted_entry_then-skip.result c.grafted_entry_then-skip.ensures c.taken_sizes-sizes.result (c.taken_sizes-sizes.ensures (suc m.round.0)) c.has_timer.result c.has_timer.ensures
+    timers-fewer a.call.now m v.head.now v.block.now c.requires c.grafted_entry_then-skip.result c.grafted_entry_then-skip.ensures c.taken_sizes-sizes.result (c.taken_sizes-sizes.ensures (suc m.round.0)) c.has_timer.result c.has_timer.ensures
 
 pub returns : goal.returns
 returns c =
     let a = c.args in
     let m = a.message.now in
     let v = a.view.now in
-    rw c.len.ensures.value (sizes-are a.call.now m v.head v.block.now c.requires c.grafted_entry_then-skip.result c.grafted_entry_then-skip.ensures c.taken_sizes-sizes.result (c.taken_sizes-sizes.ensures (suc m.round.0)) c.lazy_count.result c.lazy_count.ensures.count c.to_note.result.items
-    (c.to_note.ensures.noted (held_then a.call.now m v.head v.block.now c.requires) (suc m.round.0) (held-id a.call.now m v.head v.block.now c.requires)) c.is_missing.result c.is_missing.ensures c.has_timer.result c.has_timer.ensures)
+    rw c.len.ensures.value (sizes-are a.call.now m v.head.now v.block.now c.requires c.grafted_entry_then-skip.result c.grafted_entry_then-skip.ensures c.taken_sizes-sizes.result (c.taken_sizes-sizes.ensures (suc m.round.0)) c.lazy_count.result c.lazy_count.ensures.count c.to_note.result.items
+    (c.to_note.ensures.noted (held_then a.call.now m v.head.now v.block.now c.requires) (suc m.round.0) (held-id a.call.now m v.head.now v.block.now c.requires)) c.is_missing.result c.is_missing.ensures c.has_timer.result c.has_timer.ensures)

@@ -1,5 +1,5 @@
 -- `graft_actions` meets its contract: nothing, or the message and the record's timer behind it.
-use Rattle.std.proofs.Common.{arith, ap, sym, ◌∙◌, ◌++◌, ℕ, not, length, List, length-append, Option}
+use Rattle.std.proofs.Common.{arith, ap, sym, ◌∙◌, ◌++◌, ℕ, not, List, Option}
 use Rattle.storage.specs.Lists.Base.{concat_map}
 use Rattle.storage.specs.Rows.Ident.{id_of}
 use Rattle.storage.specs.declared.rows.id.Id.{Id}
@@ -9,7 +9,7 @@ use Rattle.decide.specs.Settled.{settled}
 use Rattle.decide.specs.RecordGrowth.{announce_action}
 use Rattle.block.specs.LinkSteps.{peer_at}
 use Rattle.wire.specs.Encode.Intake.{after}
-use Rattle.wire.proofs.EncodeLaws.IntakeLaws.{after_append, after_nil, room_after}
+use Rattle.wire.proofs.EncodeLaws.IntakeLaws.{after_append, after_nil}
 use Rattle.block.specs.Caches.CachedReads.{cached_value}
 use Rattle.block.specs.Views.{shown}
 use Rattle.payloads.specs.OnGraft.{graft_bytes}
@@ -20,7 +20,7 @@ use Rattle.payloads.proofs.OnGraftLaws.{no-bytes, not-there, sends}
 use Rattle.payloads.proofs.on_graft.graft_actions.Goals as goal
 
 pub takes-taken-requires : goal.takes-taken-requires
-takes-taken-requires g c = omega (arith, c.requires.rest.1, links-few c.args.view.now.head c.args.view.now.block.now c.args.view.now.sound)
+takes-taken-requires g c = omega (arith, c.requires.rest.1, links-few c.args.view.now.head.now c.args.view.now.block.now c.args.view.now.sound)
 
 pub returns-in_default : goal.returns-in_default
 returns-in_default g c =
@@ -39,35 +39,12 @@ returns-in_default-cached_then g c =
     ∙ not-there (rooms_of k t) (peer_at t c.args.link) (id_of c.in-Some.id) t (sym c.cached_then.ensures ∙ ap cached_value c.in_default-cached_then.is))
     ∙ after_nil h)
 
-pub encode-requires : goal.encode-requires
-encode-requires g c =
-    let v = c.args.view.now in
-    let e = sends c.args.call.now c.args.link c.args.wanted c.in-Some.id c.in-Some-cached_then.cached v.head v.block.now c.link-peer.result.peer c.takes-taken.result c.cached_then.result
-    c.requires.rest.0 c.requires.rest.1 c.in-Some.is c.in-Some-cached_then.is c.cached_then.ensures (ap (λ (x : Link). x.peer) c.link-peer.ensures) c.takes-taken.ensures in
-    omega (
-      arith,
-      c.requires.room,
-      ap length e,
-      length-append
-          (send_head c.link-peer.result.peer c.takes-taken.result ++ message_bytes (Gossip (id_of c.in-Some.id) c.in-Some-cached_then.cached.content.now (Swarm c.in-Some-cached_then.cached.round.0)))
-          (concat_map action_bytes (announce_action (not c.takes-taken.result) v.head.live.announce_dropped_scheduled)),
-    )
-
-pub schedule_announce_dropped-requires : goal.schedule_announce_dropped-requires
-schedule_announce_dropped-requires g c =
-    let v = c.args.view.now in
-    let h = g.S.Sink.intake c.args.out.now in
-    let a = send_head c.link-peer.result.peer c.takes-taken.result ++ message_bytes (Gossip (id_of c.in-Some.id) c.in-Some-cached_then.cached.content.now (Swarm c.in-Some-cached_then.cached.round.0)) in
-    let e = sends c.args.call.now c.args.link c.args.wanted c.in-Some.id c.in-Some-cached_then.cached v.head v.block.now c.link-peer.result.peer c.takes-taken.result c.cached_then.result
-    c.requires.rest.0 c.requires.rest.1 c.in-Some.is c.in-Some-cached_then.is c.cached_then.ensures (ap (λ (x : Link). x.peer) c.link-peer.ensures) c.takes-taken.ensures in
-    rw c.encode.ensures (rw (room_after a h) (omega (arith, c.requires.room, ap length e, length-append a (concat_map action_bytes (announce_action (not c.takes-taken.result) v.head.live.announce_dropped_scheduled)))))
-
 pub returns : goal.returns
 returns g c =
     let v = c.args.view.now in
     let h = g.S.Sink.intake c.args.out.now in
     let a = send_head c.link-peer.result.peer c.takes-taken.result ++ message_bytes (Gossip (id_of c.in-Some.id) c.in-Some-cached_then.cached.content.now (Swarm c.in-Some-cached_then.cached.round.0)) in
-    let b = concat_map action_bytes (announce_action (not c.takes-taken.result) v.head.live.announce_dropped_scheduled) in
-    let e = sends c.args.call.now c.args.link c.args.wanted c.in-Some.id c.in-Some-cached_then.cached v.head v.block.now c.link-peer.result.peer c.takes-taken.result c.cached_then.result
+    let b = concat_map action_bytes (announce_action (not c.takes-taken.result) v.head.now.live.announce_dropped_scheduled) in
+    let e = sends c.args.call.now c.args.link c.args.wanted c.in-Some.id c.in-Some-cached_then.cached v.head.now v.block.now c.link-peer.result.peer c.takes-taken.result c.cached_then.result
     c.requires.rest.0 c.requires.rest.1 c.in-Some.is c.in-Some-cached_then.is c.cached_then.ensures (ap (λ (x : Link). x.peer) c.link-peer.ensures) c.takes-taken.ensures in
     c.schedule_announce_dropped.ensures ∙ ap (after b) c.encode.ensures ∙ after_append a b h ∙ ap (λ (bs : List ℕ). after bs h) (sym e)

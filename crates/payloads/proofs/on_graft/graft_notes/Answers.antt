@@ -27,7 +27,7 @@ as_wanted : (c : Start) (w : Option Id) (n : ℕ) → c.args.wanted ≡ w → Gr
 as_wanted c w n e k = k ∙ ap (λ (o : Option Id). length (after_graft c.args.call.now c.args.link o (after' c)).dropped) (sym e)
 
 pub takes-requires : goal.takes-requires
-takes-requires c = omega (arith, c.requires.1, links-few c.args.view.now.head c.args.view.now.block.now c.args.view.now.sound)
+takes-requires c = omega (arith, c.requires.1, links-few c.args.view.now.head.now c.args.view.now.block.now c.args.view.now.sound)
 
 pub returns-in_default-clause-notes : goal.returns-in_default-clause-notes
 returns-in_default-clause-notes c =

@@ -1,5 +1,5 @@
 -- `late_actions` meets its contract: a Prune to the sender or to the first sender, or nothing.
-use Rattle.std.proofs.Common.{◌∙◌, ap, sym, refl, arith, length, List, ℕ}
+use Rattle.std.proofs.Common.{◌∙◌, ap, sym, refl, arith, List, ℕ}
 use Rattle.block.specs.LinkSteps.{peer_at}
 use Rattle.wire.specs.Encode.Intake.{after}
 use Rattle.wire.proofs.EncodeLaws.IntakeLaws.{after_nil}
@@ -10,22 +10,8 @@ use Rattle.payloads.proofs.OptimizeTreeLaws.{link-peer}
 use Rattle.payloads.proofs.OnLateGraftReplyLaws.{taken-link, bytes-sender, bytes-first, bytes-none}
 use Rattle.payloads.proofs.on_late_graft_reply.late_actions.Goals as goal
 
-pub encode-requires : goal.encode-requires
-encode-requires g c =
-    omega (arith, c.requires.room, ap length (bytes-sender c.args.call.now c.args.copy (shown c.args.view.now) c.in-Duplicate.ensures c.takes_back-taken.result c.takes_back-taken.ensures))
-
 pub takes-requires : goal.takes-requires
-takes-requires g c = let v = c.args.view.now in omega (arith, c.in-Faster.ensures.below, links-few v.head v.block.now v.sound)
-
-pub encode-requires-in-Faster : goal.encode-requires-in-Faster
-encode-requires-in-Faster g c =
-    let s = shown c.args.view.now in
-    omega (
-      arith,
-      c.requires.room,
-      ap length (bytes-first c.args.call.now c.args.copy s (peer_at s c.in-Faster.first) c.in-Faster.ensures.same c.link.result.peer (ap (λ (x : Link). x.peer) c.link.ensures ∙ link-peer s c.in-Faster.first) c.takes.result
-          (c.takes.ensures ∙ taken-link c.args.call.now s c.requires.rest.0.consistent.core.links_up (peer_at s c.in-Faster.first) c.in-Faster.first (record { below = c.in-Faster.ensures.below; peer = refl }))),
-    )
+takes-requires g c = let v = c.args.view.now in omega (arith, c.in-Faster.ensures.below, links-few v.head.now v.block.now v.sound)
 
 pub returns-in-Duplicate : goal.returns-in-Duplicate
 returns-in-Duplicate g c =

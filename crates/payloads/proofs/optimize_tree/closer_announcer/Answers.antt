@@ -28,7 +28,7 @@ returns-then-round-least c =
     let s = shown v in
     let m = c.in_ok-missing.ensures in
     nearest-far s s.settings.optimization_threshold c.args.round.0 (announcers (id_of c.args.id) s) (hops_at s c.in_ok-missing.missing) c.least_announcer-least.result m.same (announced-some s c.requires c.in_ok-missing.missing m.below) c.least_announcer-least.ensures
-    (omega (arith, c.if-least-round.true)) (omega (arith, c.if-round-least.true, threshold-of v.head v.block.now))
+    (omega (arith, c.if-least-round.true)) (omega (arith, c.if-round-least.true, threshold-of v.head.now v.block.now))
 
 pub returns-else-least-round : goal.returns-else-least-round
 returns-else-least-round c =
@@ -41,6 +41,6 @@ returns-else-least-round c =
     let k = c.least_announcer-least.result in
     let some' = announced-some s c.requires c.in_ok-missing.missing m.below in
     elim c.else-least-round.branch [
-      | else-least-round-via-then-least-round+else-round-least w ↦ nearest-few s t c.args.round.0 ks hs k m.same some' c.least_announcer-least.ensures (omega (arith, w.if-round-least.false, threshold-of v.head v.block.now))
+      | else-least-round-via-then-least-round+else-round-least w ↦ nearest-few s t c.args.round.0 ks hs k m.same some' c.least_announcer-least.ensures (omega (arith, w.if-round-least.false, threshold-of v.head.now v.block.now))
       | else-least-round-via-else-least-round w ↦ nearest-not s t c.args.round.0 ks hs k m.same some' c.least_announcer-least.ensures (omega (arith, w.if-least-round.false))
     ]

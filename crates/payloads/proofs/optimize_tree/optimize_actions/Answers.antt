@@ -1,5 +1,5 @@
 -- `optimize_actions` meets its contract: by what was found.
-use Rattle.std.proofs.Common.{◌∙◌, ap, sym, arith, length, List, ℕ}
+use Rattle.std.proofs.Common.{◌∙◌, ap, sym, List, ℕ}
 use Rattle.wire.specs.Encode.Intake.{after}
 use Rattle.wire.proofs.EncodeLaws.IntakeLaws.{after_nil}
 use Rattle.block.specs.Views.{shown}

@@ -1,5 +1,5 @@
 -- `shortcut_actions` meets its contract: a Prune alone, or a Graft and a Prune.
-use Rattle.std.proofs.Common.{◌∙◌, ap, sym, refl, ℕ, Bool, List, ◌++◌, length, get_or, arith, leb, eqb, if◌then◌else◌, None, length-append}
+use Rattle.std.proofs.Common.{◌∙◌, ap, sym, ℕ, Bool, List, ◌++◌, arith, None}
 use Rattle.postcard.specs.Message.{Prune, Graft, message_bytes}
 use Rattle.postcard.specs.Output.{send_head}
 use Rattle.wire.specs.Encode.Intake.{after}
@@ -16,7 +16,7 @@ abbrev Asked : ℕ → Bool → ℕ → List ℕ
 Asked p t r = send_head p t ++ message_bytes (Graft None r)
 
 pub takes-requires : goal.takes-requires
-takes-requires g c = let v = c.args.view.now in omega (arith, c.requires.rest.1, links-few v.head v.block.now v.sound)
+takes-requires g c = let v = c.args.view.now in omega (arith, c.requires.rest.1, links-few v.head.now v.block.now v.sound)
 
 pub returns-then-announcer : goal.returns-then-announcer
 returns-then-announcer g c =
@@ -27,10 +27,10 @@ returns-then-announcer g c =
     (sym (sent-eager c.args.call.now r (shown v) c.requires.rest.0.consistent.core.links_up c.requires.rest.1 c.requires.rest.2 c.link-sender.result c.link-announcer.result c.link-sender.ensures c.link-announcer.ensures c.if-announcer.true c.takes.result c.takes.ensures))
 
 pub takes-requires-2 : goal.takes-requires-2
-takes-requires-2 g c = let v = c.args.view.now in omega (arith, c.requires.rest.2, links-few v.head v.block.now v.sound)
+takes-requires-2 g c = let v = c.args.view.now in omega (arith, c.requires.rest.2, links-few v.head.now v.block.now v.sound)
 
 pub takes_prune-requires : goal.takes_prune-requires
-takes_prune-requires g c = let v = c.args.view.now in omega (arith, c.requires.rest.1, links-few v.head v.block.now v.sound)
+takes_prune-requires g c = let v = c.args.view.now in omega (arith, c.requires.rest.1, links-few v.head.now v.block.now v.sound)
 
 pub returns : goal.returns
 returns g c =

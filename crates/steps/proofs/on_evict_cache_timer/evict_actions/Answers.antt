@@ -1,37 +1,26 @@
 -- `evict_actions`: those of the eviction; where a first event evicts before it, its schedule alone.
-use Rattle.std.proofs.Common.{List, ap, sym, ◌∙◌, ℕ, subst}
+use Rattle.std.proofs.Common.{List, ap, sym, ◌∙◌, ℕ}
 use Rattle.storage.specs.Lists.Base.{concat_map}
 use Rattle.postcard.specs.Message.{Action, action_bytes}
-use Rattle.wire.specs.Encode.Intake.{after, RoomFor}
+use Rattle.wire.specs.Encode.Intake.{after}
 use Rattle.block.specs.Views.{shown}
-use Rattle.steps.proofs.StandsLaws.{in_order}
+use Rattle.steps.proofs.AtRestLaws.{in_order}
 use Rattle.steps.proofs.ActionLaws.{evict-yes, evict-no, one-action, scheduled}
 use Rattle.steps.proofs.ForgottenLaws.{init-of}
 use Rattle.steps.proofs.on_evict_cache_timer.evict_actions.Goals as goal
 
-pub tell_and_schedule-requires-clause-order : goal.tell_and_schedule-requires-clause-order
-tell_and_schedule-requires-clause-order g c = in_order (shown c.args.view.now).cache c.requires.rest.consistent.core.cache_on
-
-pub tell_and_schedule-requires-clause-room : goal.tell_and_schedule-requires-clause-room
-tell_and_schedule-requires-clause-room g c =
-    let v = c.args.view.now in
-    subst (λ (xs : List Action). RoomFor (concat_map action_bytes xs) (g.S.Sink.intake c.args.out.now)) (evict-yes c.args.call.now.instant.0 (shown v) (init-of v.head v.block.now ∙ c.if-view.true)) c.requires.room
-
-pub schedule_evict_cache-requires : goal.schedule_evict_cache-requires
-schedule_evict_cache-requires g c =
-    let v = c.args.view.now in
-    let now = c.args.call.now.instant.0 in
-    subst (λ (bs : List ℕ). RoomFor bs (g.S.Sink.intake c.args.out.now)) (ap (concat_map action_bytes) (evict-no now (shown v) (init-of v.head v.block.now ∙ c.if-view.false)) ∙ one-action (scheduled now (shown v))) c.requires.room
+pub tell_and_schedule-requires : goal.tell_and_schedule-requires
+tell_and_schedule-requires g c = record { order = in_order (shown c.args.view.now).cache c.requires.rest.consistent.core.cache_on }
 
 pub returns-then-view : goal.returns-then-view
 returns-then-view g c =
     let v = c.args.view.now in
     c.tell_and_schedule.ensures
-    ∙ ap (λ (xs : List Action). after (concat_map action_bytes xs) (g.S.Sink.intake c.args.out.now)) (sym (evict-yes c.args.call.now.instant.0 (shown v) (init-of v.head v.block.now ∙ c.if-view.true)))
+    ∙ ap (λ (xs : List Action). after (concat_map action_bytes xs) (g.S.Sink.intake c.args.out.now)) (sym (evict-yes c.args.call.now.instant.0 (shown v) (init-of v.head.now v.block.now ∙ c.if-view.true)))
 
 pub returns-else-view : goal.returns-else-view
 returns-else-view g c =
     let v = c.args.view.now in
     let now = c.args.call.now.instant.0 in
     c.schedule_evict_cache.ensures
-    ∙ ap (λ (bs : List ℕ). after bs (g.S.Sink.intake c.args.out.now)) (sym (ap (concat_map action_bytes) (evict-no now (shown v) (init-of v.head v.block.now ∙ c.if-view.false)) ∙ one-action (scheduled now (shown v))))
+    ∙ ap (λ (bs : List ℕ). after bs (g.S.Sink.intake c.args.out.now)) (sym (ap (concat_map action_bytes) (evict-no now (shown v) (init-of v.head.now v.block.now ∙ c.if-view.false)) ∙ one-action (scheduled now (shown v))))

@@ -1,6 +1,6 @@
--- `tell_rows`: what the rows that are left tell completes what is to be told, and there is room for it.
+-- `tell_rows`: what the rows that are left tell completes what is to be told.
 use Rattle.std.proofs.Common.{◌≡◌}
-use Rattle.wire.specs.Encode.Intake.{after, RoomFor}
+use Rattle.wire.specs.Encode.Intake.{after}
 use Rattle.steps.proofs.ForgottenLaws.{told_from}
 use Rattle.steps.proofs.on_evict_cache_timer.tell_rows.Given as goal
 
@@ -8,7 +8,4 @@ abbrev pub invariant-loop-row : goal.invariant-loop-row
 invariant-loop-row g l =
     let held = g.S.Sink.intake in
     let v = l.view in
-    record {
-      same : after (told_from v.head v.block.now l.row-items l.row-index) (held l.out) ≡ after (told_from v.head v.block.now l.row-items 0) (held l.initial.out);
-      room : RoomFor (told_from v.head v.block.now l.row-items l.row-index) (held l.out);
-    }
+    after (told_from v.head.now v.block.now l.row-items l.row-index) (held l.out) ≡ after (told_from v.head.now v.block.now l.row-items 0) (held l.initial.out)

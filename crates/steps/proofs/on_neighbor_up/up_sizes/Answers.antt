@@ -15,7 +15,7 @@ near c = sym c.is_none.ensures ∙ found-neighbour (shown c.args.view.now) c.arg
 pub overflow_add-sizes : goal.overflow_add-sizes
 overflow_add-sizes c =
     let v = c.args.view.now in
-    omega (arith, (subst Few (sym c.sizes_now-sizes.ensures) (few-now v.head v.block.now v.sound)).links)
+    omega (arith, (subst Few (sym c.sizes_now-sizes.ensures) (few-now v.head.now v.block.now v.sound)).links)
 
 pub returns-then-is_none : goal.returns-then-is_none
 returns-then-is_none c q =

@@ -1,25 +1,29 @@
 -- `contents_later`: the bytes of the first i contents that expire later.
 use Rattle.std.proofs.Common.{◌∙◌, arith, lt-ltb, le-ltb}
+use Rattle.block.specs.View.{state_of}
 use Rattle.steps.proofs.SettledLaws.SizeLaws.{bytes-start, bytes-later, bytes-gone, bytes-end}
 use Rattle.steps.proofs.settled.contents_later.Goals as goal
 use Rattle.steps.proofs.settled.contents_later.Goals.{then-instant-expires, else-instant-expires}
 
 pub loop-i-init : goal.loop-i-init
 loop-i-init c =
-    (bytes-start c.args.instant.0 c.args.head c.args.block.now c.requires.sound, omega arith)
+    let v = c.args.view.now in
+    (bytes-start c.args.instant.0 v.head.now v.block.now v.sound, omega arith)
 
 pub loop-i-preserved : goal.loop-i-preserved
+unfolding state_of
 loop-i-preserved c =
     let l = c.loop-i in
     let q = c.loop-i-test.true in
     let a = c.args in
+    let v = a.view.now in
     elim c.if-instant-expires.branch [
       | then-instant-expires w ↦ (
-        w.total-is ∙ bytes-later a.instant.0 a.head a.block.now c.requires.sound l.i l.total q l.invariant.0 c.cached_expires-expires.result.0 c.cached_expires-expires.ensures w.cached_content-total.result w.cached_content-total.ensures (lt-ltb _ _ w.if-instant-expires.true),
-        omega (arith, w.total-is, l.invariant.1, w.cached_content-total.ensures.within, c.requires.sound.fit.within, c.requires.sound.fit.ceilings),
+        w.total-is ∙ bytes-later a.instant.0 v.head.now v.block.now v.sound l.i l.total q l.invariant.0 c.cached_expires-expires.result.0 c.cached_expires-expires.ensures w.cached_content-total.result.now w.cached_content-total.ensures.content (lt-ltb _ _ w.if-instant-expires.true),
+        omega (arith, w.total-is, l.invariant.1, w.cached_content-total.ensures.few, v.sound.fit.ceilings.B),
       )
       | else-instant-expires w ↦ (
-        w.total-is ∙ bytes-gone a.instant.0 a.head a.block.now c.requires.sound l.i l.total q l.invariant.0 c.cached_expires-expires.result.0 c.cached_expires-expires.ensures (le-ltb _ _ w.if-instant-expires.false),
+        w.total-is ∙ bytes-gone a.instant.0 v.head.now v.block.now v.sound l.i l.total q l.invariant.0 c.cached_expires-expires.result.0 c.cached_expires-expires.ensures (le-ltb _ _ w.if-instant-expires.false),
         omega (arith, w.total-is, l.invariant.1),
       )
     ]
@@ -27,4 +31,5 @@ loop-i-preserved c =
 pub returns : goal.returns
 returns c =
     let l = c.loop-i in
-    bytes-end c.args.instant.0 c.args.head c.args.block.now c.requires.sound l.i l.total c.loop-i-test.false l.invariant.0
+    let v = c.args.view.now in
+    bytes-end c.args.instant.0 v.head.now v.block.now v.sound l.i l.total c.loop-i-test.false l.invariant.0

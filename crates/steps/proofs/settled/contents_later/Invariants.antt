@@ -4,4 +4,4 @@ use Rattle.steps.proofs.SettledLaws.SizeLaws.{Bytes}
 use Rattle.steps.proofs.settled.contents_later.Given as goal
 
 abbrev pub invariant-loop-i : goal.invariant-loop-i
-invariant-loop-i l = Bytes l.instant.0 l.head l.block l.i l.total × (l.total ≤ l.i * 1048576)
+invariant-loop-i l = Bytes l.instant.0 l.view.head.now l.view.block.now l.i l.total × (l.total ≤ l.i * 1048576)

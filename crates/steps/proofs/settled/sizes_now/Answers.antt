@@ -4,4 +4,4 @@ use Rattle.steps.proofs.SettledLaws.SizeLaws.{sizes-live}
 use Rattle.steps.proofs.settled.sizes_now.Goals as goal
 
 pub returns : goal.returns
-returns c = sizes-live c.args.head c.args.block.now c.requires.sound _ refl refl refl refl refl refl refl refl refl refl refl refl
+returns c = let v = c.args.view.now in sizes-live v.head.now v.block.now v.sound _ refl refl refl refl refl refl refl refl refl refl refl refl

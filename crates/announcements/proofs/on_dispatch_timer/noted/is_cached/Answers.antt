@@ -15,7 +15,7 @@ queued-requires c =
     (c.requires.found.named place (named - 1) some).0
 
 pub overflow_add-found : goal.overflow_add-found
-overflow_add-found c = let v = c.args.view.now in omega (arith, c.requires.row, queue-few v.head v.block.now v.sound)
+overflow_add-found c = let v = c.args.view.now in omega (arith, c.requires.row, queue-few v.head.now v.block.now v.sound)
 
 pub returns-clause-found : goal.returns-clause-found
 returns-clause-found c =

@@ -20,10 +20,10 @@ use Rattle.announcements.proofs.on_dispatch_timer.noted.note_link.Goals as goal
 use Rattle.announcements.proofs.on_dispatch_timer.noted.note_link.Goals.{After-is_full, After-low-place, then-is_cached, else-is_cached}
 
 pub overflow_cast-own_mark : goal.overflow_cast-own_mark
-overflow_cast-own_mark c = let v = c.args.view.now in omega (arith, c.requires.back.link, links-few v.head v.block.now v.sound)
+overflow_cast-own_mark c = let v = c.args.view.now in omega (arith, c.requires.back.link, links-few v.head.now v.block.now v.sound)
 
 pub overflow_add-own_mark : goal.overflow_add-own_mark
-overflow_add-own_mark c = let v = c.args.view.now in omega (arith, c.requires.back.link, links-few v.head v.block.now v.sound)
+overflow_add-own_mark c = let v = c.args.view.now in omega (arith, c.requires.back.link, links-few v.head.now v.block.now v.sound)
 
 pub loop-row-init : goal.loop-row-init
 loop-row-init c =

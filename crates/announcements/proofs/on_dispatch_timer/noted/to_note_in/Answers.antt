@@ -10,7 +10,8 @@ use Rattle.block.specs.LinkSteps.{peer_at}
 use Rattle.block.specs.NoteSteps.{note_at}
 use Rattle.block.specs.Views.{shown}
 use Rattle.steps.proofs.GroupsLaws.GroupLaws.{apart_of}
-use Rattle.block.proofs.NoteRowLaws.{queue-few, record-few, per-message}
+use Rattle.block.proofs.NoteRowLaws.{queue-few, record-few}
+use Rattle.announcements.proofs.PerMessageLaws.{per-message}
 use Rattle.block.proofs.ViewLaws.{links-few}
 use Rattle.announcements.specs.QueuedRows.{held_then, ihave_of, ihaves_at, Mine}
 use Rattle.announcements.proofs.OnDispatchLaws.QueueLaws.{queued-few}
@@ -24,31 +25,31 @@ use Rattle.announcements.proofs.on_dispatch_timer.noted.to_note_in.Goals.{In-loo
 pub group-queue-requires-clause-links : goal.group-queue-requires-clause-links
 group-queue-requires-clause-links g c =
     let v = c.args.view.now in
-    below-links (shown v) (shown v).queue c.queue_links.result.now c.queue_links.ensures 32 (links-few v.head v.block.now v.sound)
+    below-links (shown v) (shown v).queue c.queue_links.result.now c.queue_links.ensures 32 (links-few v.head.now v.block.now v.sound)
 
 pub group-queue-requires-clause-room : goal.group-queue-requires-clause-room
 group-queue-requires-clause-room g c = let v = c.args.view.now in omega (arith, column-long (shown v) (shown v).queue c.queue_links.result.now c.queue_links.ensures, c.requires.queue, length-replicate {A = ℕ} g.row.QUEUE 0)
 
 pub group-queue-requires-clause-few : goal.group-queue-requires-clause-few
-group-queue-requires-clause-few g c = let v = c.args.view.now in omega (arith, column-long (shown v) (shown v).queue c.queue_links.result.now c.queue_links.ensures, queue-few v.head v.block.now v.sound)
+group-queue-requires-clause-few g c = let v = c.args.view.now in omega (arith, column-long (shown v) (shown v).queue c.queue_links.result.now c.queue_links.ensures, queue-few v.head.now v.block.now v.sound)
 
 pub group-record-requires-clause-links : goal.group-record-requires-clause-links
 group-record-requires-clause-links g c =
     let v = c.args.view.now in
-    below-links (shown v) (shown v).dropped c.record_links.result.now c.record_links.ensures 32 (links-few v.head v.block.now v.sound)
+    below-links (shown v) (shown v).dropped c.record_links.result.now c.record_links.ensures 32 (links-few v.head.now v.block.now v.sound)
 
 pub group-record-requires-clause-room : goal.group-record-requires-clause-room
 group-record-requires-clause-room g c = let v = c.args.view.now in omega (arith, column-long (shown v) (shown v).dropped c.record_links.result.now c.record_links.ensures, c.requires.record, length-replicate {A = ℕ} g.row.RECORD 0)
 
 pub group-record-requires-clause-few : goal.group-record-requires-clause-few
-group-record-requires-clause-few g c = let v = c.args.view.now in omega (arith, column-long (shown v) (shown v).dropped c.record_links.result.now c.record_links.ensures, record-few v.head v.block.now v.sound)
+group-record-requires-clause-few g c = let v = c.args.view.now in omega (arith, column-long (shown v) (shown v).dropped c.record_links.result.now c.record_links.ensures, record-few v.head.now v.block.now v.sound)
 
 pub loop-link-init : goal.loop-link-init
 loop-link-init g c =
     let v = c.args.view.now in
     let s = shown v in
     rw c.requires.none (record {
-      sofar = after-none (held_then c.args.call.now.instant.0 s) c.args.call.now s c.requires.rest (queue-few v.head v.block.now v.sound) ∙ sym (append-nil s.dropped);
+      sofar = after-none (held_then c.args.call.now.instant.0 s) c.args.call.now s c.requires.rest (queue-few v.head.now v.block.now v.sound) ∙ sym (append-nil s.dropped);
       among = All-nil (λ i. i < length s.queue);
       earlier = All-nil (Earlier s 0);
       found = found-none c.args.call.now.instant.0 s g.row.FOUND;
@@ -64,7 +65,7 @@ module _ (g : _) (c : In-loop-link g) where
   low = omega (arith, c.loop-link-test.true, c.link_count-link-end.ensures)
 
   few : c.loop-link.link < 32
-  few = omega (arith, low, links-few c.args.view.now.head c.args.view.now.block.now c.args.view.now.sound)
+  few = omega (arith, low, links-few c.args.view.now.head.now c.args.view.now.block.now c.args.view.now.sound)
 
 pub link_rows-queued-requires : goal.link_rows-queued-requires
 link_rows-queued-requires g c = apart_of c.group-queue.ensures.grouped c.loop-link.link (few g (goal.at.link_rows-queued-requires g c).In-loop-link)
@@ -94,24 +95,24 @@ module _ (g : _) (c : After-link_rows-queued g) where
   queued-mine : Mine s s.queue c.loop-link.link c.link_rows-queued.result.now
   queued-mine =
       let v = c.args.view.now in
-      rw c.link_rows-queued.ensures (mine s s.queue c.queue_links.result.now c.queue_links.ensures c.requires.rest.consistent.core.links_up c.loop-link.link l-low c.group-queue.new.rows c.group-queue.result c.group-queue.ensures.grouped (links-few v.head v.block.now v.sound))
+      rw c.link_rows-queued.ensures (mine s s.queue c.queue_links.result.now c.queue_links.ensures c.requires.rest.consistent.core.links_up c.loop-link.link l-low c.group-queue.new.rows c.group-queue.result c.group-queue.ensures.grouped (links-few v.head.now v.block.now v.sound))
 
   queued-own : All (λ i. (note_at s.queue i).peer ≡ peer_at s c.loop-link.link) c.link_rows-queued.result.now
   queued-own =
       let v = c.args.view.now in
-      rw c.link_rows-queued.ensures (own-peer s s.queue c.queue_links.result.now c.queue_links.ensures c.requires.rest.consistent.core.links_up c.loop-link.link l-low c.group-queue.new.rows c.group-queue.result c.group-queue.ensures.grouped (links-few v.head v.block.now v.sound))
+      rw c.link_rows-queued.ensures (own-peer s s.queue c.queue_links.result.now c.queue_links.ensures c.requires.rest.consistent.core.links_up c.loop-link.link l-low c.group-queue.new.rows c.group-queue.result c.group-queue.ensures.grouped (links-few v.head.now v.block.now v.sound))
 
 pub taken-taken-requires-clause-few : goal.taken-taken-requires-clause-few
 taken-taken-requires-clause-few g c =
     let w = (goal.at.taken-taken-requires-clause-few g c).After-link_rows-queued in
     let v = c.args.view.now in
-    omega (arith, length-map c.link_rows-queued.result.now (λ (i : ℕ). ihave_of (note_at (s g w).queue i)), ap length (queued-mine g w).mine, queued-few (peer_at (s g w) c.loop-link.link) (s g w).queue, queue-few v.head v.block.now v.sound)
+    omega (arith, length-map c.link_rows-queued.result.now (λ (i : ℕ). ihave_of (note_at (s g w).queue i)), ap length (queued-mine g w).mine, queued-few (peer_at (s g w) c.loop-link.link) (s g w).queue, queue-few v.head.now v.block.now v.sound)
 
 pub note_link-requires-clause-recorded : goal.note_link-requires-clause-recorded
 note_link-requires-clause-recorded g c =
     let w = (goal.at.note_link-requires-clause-recorded g c).After-link_rows-queued in
     let v = c.args.view.now in
-    rw c.link_rows-recorded.ensures (mine (s g w) (s g w).dropped c.record_links.result.now c.record_links.ensures c.requires.rest.consistent.core.links_up c.loop-link.link (l-low g w) c.group-record.new.rows c.group-record.result c.group-record.ensures.grouped (links-few v.head v.block.now v.sound))
+    rw c.link_rows-recorded.ensures (mine (s g w) (s g w).dropped c.record_links.result.now c.record_links.ensures c.requires.rest.consistent.core.links_up c.loop-link.link (l-low g w) c.group-record.new.rows c.group-record.result c.group-record.ensures.grouped (links-few v.head.now v.block.now v.sound))
 
 pub note_link-requires-clause-back : goal.note_link-requires-clause-back
 note_link-requires-clause-back g c =
@@ -128,7 +129,7 @@ pub note_link-requires-clause-below : goal.note_link-requires-clause-below
 note_link-requires-clause-below g c =
     let w = (goal.at.note_link-requires-clause-below g c).After-link_rows-queued in
     let v = c.args.view.now in
-    earlier-below (held_then c.args.call.now.instant.0 (s g w)) c.args.call.now (s g w) c.requires.rest (queue-few v.head v.block.now v.sound) c.loop-link.link (l-low g w) c.loop-link.noted.items c.loop-link.invariant.earlier
+    earlier-below (held_then c.args.call.now.instant.0 (s g w)) c.args.call.now (s g w) c.requires.rest (queue-few v.head.now v.block.now v.sound) c.loop-link.link (l-low g w) c.loop-link.noted.items c.loop-link.invariant.earlier
 
 pub loop-link-preserved : goal.loop-link-preserved
 loop-link-preserved g c =
@@ -136,7 +137,7 @@ loop-link-preserved g c =
     let v = c.args.view.now in
     let held = held_then c.args.call.now.instant.0 (s g w) in
     let call = c.args.call.now in
-    let few = queue-few v.head v.block.now v.sound in
+    let few = queue-few v.head.now v.block.now v.sound in
     let l = c.loop-link.link in
     let rows = c.link_rows-queued.result.now in
     let n = c.taken-taken.result in
@@ -166,14 +167,14 @@ pub returns-clause-noted : goal.returns-clause-noted
 returns-clause-noted g c =
     let v = c.args.view.now in
     let s = shown v in
-    sym (after-all (held_then c.args.call.now.instant.0 s) c.args.call.now s c.requires.rest (queue-few v.head v.block.now v.sound) c.loop-link.link (omega (arith, c.loop-link-test.false, c.link_count-link-end.ensures)))
+    sym (after-all (held_then c.args.call.now.instant.0 s) c.args.call.now s c.requires.rest (queue-few v.head.now v.block.now v.sound) c.loop-link.link (omega (arith, c.loop-link-test.false, c.link_count-link-end.ensures)))
     ∙ c.loop-link.invariant.sofar
 
 -- what the first pass over the links is told of the rows
 pub is_handed_back-requires-clause-mine : goal.is_handed_back-requires-clause-mine
 is_handed_back-requires-clause-mine g c = λ l q.
     let v = c.args.view.now in
-    let few = links-few v.head v.block.now v.sound in (
+    let few = links-few v.head.now v.block.now v.sound in (
       apart_of c.group-queue.ensures.grouped l (omega (arith, q, few)),
       mine (shown v) (shown v).queue c.queue_links.result.now c.queue_links.ensures c.requires.rest.consistent.core.links_up l q c.group-queue.new.rows c.group-queue.result c.group-queue.ensures.grouped few,
     )

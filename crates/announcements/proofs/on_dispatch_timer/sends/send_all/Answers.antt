@@ -13,9 +13,8 @@ use Rattle.block.specs.View.{state_of}
 use Rattle.block.specs.LinkSteps.{peer_at}
 use Rattle.block.proofs.LinkLaws.{count-links}
 use Rattle.steps.specs.Calls.{rooms_of}
-use Rattle.steps.specs.Stands.{Stands}
 use Rattle.block.specs.Views.{shown}
-use Rattle.steps.proofs.AtRestLaws.{stands_of, same_links}
+use Rattle.steps.proofs.AtRestLaws.{same_links}
 use Rattle.steps.proofs.GroupsLaws.GroupLaws.{apart_of}
 use Rattle.steps.proofs.RoomsLaws.{same-rooms-in}
 use Rattle.block.proofs.NoteRowLaws.{queue-few}
@@ -24,15 +23,15 @@ use Rattle.announcements.specs.OnDispatchTimer.{dispatch_bytes}
 use Rattle.announcements.specs.QueuedRows.{held_then}
 use Rattle.announcements.proofs.OnDispatchLaws.ActionLoop.{all-actions, next-peer, no-peer}
 use Rattle.announcements.proofs.OnDispatchLaws.LinkRows.{column-long, below-links, mine}
-use Rattle.announcements.proofs.OnDispatchLaws.SendLaws.{going_start, going-room, going_next, going_end}
+use Rattle.announcements.proofs.OnDispatchLaws.SendLaws.{going_start, going_next, going_end}
 use Rattle.announcements.proofs.on_dispatch_timer.sends.send_all.Given.{Over}
 use Rattle.announcements.proofs.on_dispatch_timer.sends.send_all.Goals as goal
-use Rattle.announcements.proofs.on_dispatch_timer.sends.send_all.Goals.{Start, In-loop-link}
+use Rattle.announcements.proofs.on_dispatch_timer.sends.send_all.Goals.{In-loop-link}
 
 pub group-starts-requires-clause-links : goal.group-starts-requires-clause-links
 group-starts-requires-clause-links g c =
     let v = c.args.view.now in
-    below-links (shown v) (shown v).queue c.queue_links.result.now c.queue_links.ensures 32 (links-few v.head v.block.now v.sound)
+    below-links (shown v) (shown v).queue c.queue_links.result.now c.queue_links.ensures 32 (links-few v.head.now v.block.now v.sound)
 
 pub group-starts-requires-clause-room : goal.group-starts-requires-clause-room
 group-starts-requires-clause-room g c =
@@ -42,10 +41,7 @@ group-starts-requires-clause-room g c =
 pub group-starts-requires-clause-few : goal.group-starts-requires-clause-few
 group-starts-requires-clause-few g c =
     let v = c.args.view.now in
-    omega (arith, column-long (shown v) (shown v).queue c.queue_links.result.now c.queue_links.ensures, queue-few v.head v.block.now v.sound)
-
-stands : (g : Over) (c : Start g) → Stands c.args.view.now.head c.args.view.now.block.now
-stands g c = let v = c.args.view.now in stands_of v.head v.block.now v.sound c.requires.rest
+    omega (arith, column-long (shown v) (shown v).queue c.queue_links.result.now c.queue_links.ensures, queue-few v.head.now v.block.now v.sound)
 
 pub loop-link-init : goal.loop-link-init
 unfolding state_of
@@ -56,7 +52,7 @@ loop-link-init g c =
     let now = call.instant.0 in
     going_start (held_then now s) (rooms_of call s) (per_message s.settings.max_message_size) s.queue (dispatch_bytes call (settled now s)) (g.S.Sink.intake c.args.out.now) (keys s.links) s.timers.announce
     (ap (λ (rooms : List Room). concat_map action_bytes (dispatch_actions rooms (settled now s))) (same-rooms-in (settled now s) s call.peer call.rooms.now (ap (λ (l : Links). keys l) (same_links now s)))
-    ∙ ap (concat_map action_bytes) (all-actions v.head v.block.now (stands g ((goal.at.loop-link-init g c).Start)) now (rooms_of call s)))
+    ∙ ap (concat_map action_bytes) (all-actions v.head.now v.block.now c.requires.rest now (rooms_of call s)))
 
 -- the next link
 module _ (g : Over) (c : In-loop-link g) where
@@ -67,10 +63,10 @@ module _ (g : Over) (c : In-loop-link g) where
   low = omega (arith, c.loop-link-test.true, c.link_count-link-end.ensures)
 
   next-is : drop c.loop-link.link (keys s.links) ≡ peer_at s c.loop-link.link ∷ drop (c.loop-link.link + 1) (keys s.links)
-  next-is = let v = c.args.view.now in next-peer v.head v.block.now (stands g ((goal.at.In-loop-link g c).Start)) c.loop-link.link (omega (arith, low, count-links v.head v.block.now))
+  next-is = let v = c.args.view.now in next-peer v.head.now v.block.now c.requires.rest c.loop-link.link (omega (arith, low, count-links v.head.now v.block.now))
 
   few : c.loop-link.link < 32
-  few = omega (arith, low, links-few c.args.view.now.head c.args.view.now.block.now c.args.view.now.sound)
+  few = omega (arith, low, links-few c.args.view.now.head.now c.args.view.now.block.now c.args.view.now.sound)
 
 pub link_rows-requires : goal.link_rows-requires
 link_rows-requires g c = apart_of c.group-starts.ensures.grouped c.loop-link.link (few g ((goal.at.link_rows-requires g c).In-loop-link))
@@ -79,12 +75,7 @@ pub send_link-flag-requires-clause-mine : goal.send_link-flag-requires-clause-mi
 send_link-flag-requires-clause-mine g c =
     let n = (goal.at.send_link-flag-requires-clause-mine g c).In-loop-link in
     let v = c.args.view.now in
-    rw c.link_rows.ensures (mine (shown v) (shown v).queue c.queue_links.result.now c.queue_links.ensures c.requires.rest.consistent.core.links_up c.loop-link.link (low g n) c.group-starts.new.rows c.group-starts.result c.group-starts.ensures.grouped (links-few v.head v.block.now v.sound))
-
-pub send_link-flag-requires-clause-room : goal.send_link-flag-requires-clause-room
-send_link-flag-requires-clause-room g c =
-    let n = (goal.at.send_link-flag-requires-clause-room g c).In-loop-link in
-    going-room (drop c.loop-link.link (keys (s g n).links)) c.loop-link.invariant (peer_at (s g n) c.loop-link.link) (drop (c.loop-link.link + 1) (keys (s g n).links)) (next-is g n) c.requires.room
+    rw c.link_rows.ensures (mine (shown v) (shown v).queue c.queue_links.result.now c.queue_links.ensures c.requires.rest.consistent.core.links_up c.loop-link.link (low g n) c.group-starts.new.rows c.group-starts.result c.group-starts.ensures.grouped (links-few v.head.now v.block.now v.sound))
 
 pub loop-link-preserved : goal.loop-link-preserved
 loop-link-preserved g c =
@@ -94,4 +85,4 @@ loop-link-preserved g c =
 pub returns : goal.returns
 returns g c =
     let v = c.args.view.now in
-    going_end (drop c.loop-link.link (keys (shown v).links)) c.loop-link.invariant (no-peer v.head v.block.now (stands g ((goal.at.returns g c).Start)) c.loop-link.link (omega (arith, c.loop-link-test.false, c.link_count-link-end.ensures, count-links v.head v.block.now)))
+    going_end (drop c.loop-link.link (keys (shown v).links)) c.loop-link.invariant (no-peer v.head.now v.block.now c.requires.rest c.loop-link.link (omega (arith, c.loop-link-test.false, c.link_count-link-end.ensures, count-links v.head.now v.block.now)))

@@ -3,15 +3,8 @@ use Rattle.std.proofs.Common.{sym, ◌∙◌, not, false}
 use Rattle.decide.specs.RecordGrowth.{announce_action}
 use Rattle.block.specs.Views.{shown}
 use Rattle.announcements.specs.QueuedRows.{held_then, ihaves_at, some_held}
-use Rattle.announcements.proofs.OnDispatchLaws.SendLaws.{send-room, timer-room, send-quiet, send-timed, quiet-or, loud-timer}
+use Rattle.announcements.proofs.OnDispatchLaws.SendLaws.{send-quiet, send-timed, quiet-or, loud-timer}
 use Rattle.announcements.proofs.on_dispatch_timer.sends.send_ihave.Goals as goal
-
-pub encode-requires : goal.encode-requires
-encode-requires g c =
-    let m = c.args.send.now in
-    let held = held_then c.args.instant.0 (shown m.message.view) in
-    let hs = ihaves_at (shown m.message.view).queue m.message.rows.now in
-    let x = g.S.Sink.intake c.args.out.now in send-room held m.taken c.args.flag m.peer hs x x c.requires.room
 
 pub returns-then-is_quiet-clause-sent : goal.returns-then-is_quiet-clause-sent
 returns-then-is_quiet-clause-sent g c =
@@ -19,13 +12,6 @@ returns-then-is_quiet-clause-sent g c =
     let held = held_then c.args.instant.0 (shown m.message.view) in
     let hs = ihaves_at (shown m.message.view).queue m.message.rows.now in
     send-quiet held m.taken c.args.flag m.peer hs _ _ c.encode.ensures (quiet-or m.taken c.args.flag (not (some_held held hs)) (sym c.is_quiet.ensures ∙ c.if-is_quiet.true))
-
-pub schedule_announce_dropped-requires : goal.schedule_announce_dropped-requires
-schedule_announce_dropped-requires g c =
-    let m = c.args.send.now in
-    let held = held_then c.args.instant.0 (shown m.message.view) in
-    let hs = ihaves_at (shown m.message.view).queue m.message.rows.now in
-    timer-room held m.taken c.args.flag m.peer hs _ _ c.requires.room c.encode.ensures (announce_action c.any_cached-noted.result false) (loud-timer m.taken c.args.flag (some_held held hs) c.any_cached-noted.result (sym c.is_quiet.ensures ∙ c.if-is_quiet.false) c.any_cached-noted.ensures)
 
 pub returns-clause-sent : goal.returns-clause-sent
 returns-clause-sent g c =

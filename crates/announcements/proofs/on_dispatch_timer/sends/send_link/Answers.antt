@@ -12,7 +12,8 @@ use Rattle.block.specs.Views.{shown}
 use Rattle.block.specs.declared.links.NumberedLink.{NumberedLink}
 use Rattle.block.proofs.PanelLaws.{link-key}
 use Rattle.steps.proofs.RoomsLaws.{kth-link}
-use Rattle.block.proofs.NoteRowLaws.{per-message, queue-few}
+use Rattle.block.proofs.NoteRowLaws.{queue-few}
+use Rattle.announcements.proofs.PerMessageLaws.{per-message}
 use Rattle.block.proofs.ViewLaws.{links-few}
 use Rattle.announcements.specs.QueuedRows.{held_then, ihave_of, ihaves_at}
 use Rattle.announcements.proofs.OnDispatchLaws.QueueLaws.{queued-few}
@@ -23,10 +24,10 @@ use Rattle.announcements.proofs.on_dispatch_timer.sends.send_link.Given.{Over}
 use Rattle.announcements.proofs.on_dispatch_timer.sends.send_link.Goals.{Start, After-link-peer, In-Some, In-None}
 
 pub offset_bounds-call-queued : goal.offset_bounds-call-queued
-offset_bounds-call-queued g c = omega (arith, c.requires.link, links-few c.args.view.now.head c.args.view.now.block.now c.args.view.now.sound)
+offset_bounds-call-queued g c = omega (arith, c.requires.link, links-few c.args.view.now.head.now c.args.view.now.block.now c.args.view.now.sound)
 
 pub bounds-call-queued : goal.bounds-call-queued
-bounds-call-queued g c = omega (arith, c.requires.link, links-few c.args.view.now.head c.args.view.now.block.now c.args.view.now.sound)
+bounds-call-queued g c = omega (arith, c.requires.link, links-few c.args.view.now.head.now c.args.view.now.block.now c.args.view.now.sound)
 
 pub chunks-rows-items-requires : goal.chunks-rows-items-requires
 chunks-rows-items-requires g c = omega (arith, c.per_message.ensures, (per-message (shown c.args.view.now) c.requires.rest.ranged).some)
@@ -36,7 +37,7 @@ rows-few : (g : Over) (c : Start g) → length c.args.queued.now.rows.now ≤ 81
 rows-few g c =
     let v = c.args.view.now in
     let s = shown v in
-    omega (arith, length-map c.args.queued.now.rows.now (λ (i : ℕ). ihave_of (note_at s.queue i)), ap length c.requires.mine.mine, queued-few (peer_at s c.args.queued.now.link) s.queue, queue-few v.head v.block.now v.sound)
+    omega (arith, length-map c.args.queued.now.rows.now (λ (i : ℕ). ihave_of (note_at s.queue i)), ap length c.requires.mine.mine, queued-few (peer_at s c.args.queued.now.link) s.queue, queue-few v.head.now v.block.now v.sound)
 
 -- the peer
 peer-is : (g : Over) (c : After-link-peer g) → c.link-peer.result.peer ≡ peer_at (shown c.args.view.now) c.args.queued.now.link

@@ -1,36 +1,40 @@
--- `missing::announce_at` meets its contract: a link that is there stays, another is added.
-use Rattle.std.proofs.Common.{sym, ap, ◌∙◌, List, [], ◌∷◌, length, length-append, arith}
+-- A link that is there stays, another is added.
+use Rattle.std.proofs.Common.{◌≡◌, sym, ap, ◌∙◌, refl, List, [], ◌∷◌, length, length-append, arith}
+use Rattle.storage.specs.Lists.Base.{any}
 use Rattle.storage.specs.Lists.Map.{keys}
 use Rattle.time_cache.proofs.Orders.{up_of}
-use Rattle.protocol.specs.State.{Hop}
-use Rattle.block.specs.View.{state_of}
+use Rattle.protocol.specs.State.{State, Hop}
 use Rattle.block.specs.LinkSteps.{peer_at}
-use Rattle.block.specs.MissingSteps.{hop, hops_at, hops_to}
-use Rattle.block.proofs.MissingLaws.{count-missing}
+use Rattle.block.specs.MissingSteps.{hop, hops_at, hops_to, from_peer}
+use Rattle.block.specs.Panels.{state}
 use Rattle.block.proofs.AnnounceLaws.{added-there, added-not, hops-same}
+use Rattle.block.proofs.PanelLaws.{same-state}
 use Rattle.block.proofs.panel.Panel.announce_again.Goals as goal
+use Rattle.block.proofs.panel.Panel.announce_again.Goals.{After-is_announcer}
 
-pub returns-then-announced_by : goal.returns-then-announced_by
-returns-then-announced_by c =
-    let a = c.args in
-    let st = state_of a.head a.block.now in
-    let t = added-there st a.i a.link a.round.0 (sym c.announced_by.ensures ∙ c.if-announced_by.true) in
-    record {
-      state = sym (ap (λ (hs : List Hop). hops_to a.i hs st) t ∙ hops-same st a.i (up_of (keys st.missing) c.requires.sound.2) (omega (arith, c.requires.sound.3, count-missing a.head a.block.now)));
-      sound = c.requires.sound.0;
-    }
+-- whether the link's peer is among the announcers
+there : (c : After-is_announcer) → c.is_announcer.result ≡ any (from_peer (peer_at (state c.args.self.now) c.args.by.link)) (hops_at (state c.args.self.now) c.args.missing)
+there c =
+    c.is_announcer.ensures ∙ ap (λ (s : State). any (from_peer (peer_at s c.args.by.link)) (hops_at s c.args.missing)) (same-state c.args.self.now c.view.result c.view.ensures.head c.view.ensures.block)
 
-pub push_announcer-requires : goal.push_announcer-requires
-push_announcer-requires c =
-    let a = c.args in
-    let st = state_of a.head a.block.now in
-    let t = added-not st a.i a.link a.round.0 (sym c.announced_by.ensures ∙ c.if-announced_by.false) in
-    (c.requires.sound.0, c.requires.sound.2, c.requires.sound.3, c.requires.sound.4, omega (arith, c.requires.block_len_bound, ap length t, length-append (hops_at st a.i) (hop (peer_at st a.link) a.round.0 ∷ [])))
+pub push_announcer-requires-clause-room : goal.push_announcer-requires-clause-room
+push_announcer-requires-clause-room c =
+    let s = state c.args.self.now in
+    let by = c.args.by in
+    let t = added-not s c.args.missing by.link by.round.0 (sym (there (goal.at.push_announcer-requires-clause-room c).After-is_announcer) ∙ c.if-not-is_announcer.true) in
+    omega (arith, c.requires.room, ap length t, length-append (hops_at s c.args.missing) (hop (peer_at s by.link) by.round.0 ∷ []))
 
-pub returns : goal.returns
-returns c =
-    let a = c.args in
-    let st = state_of a.head a.block.now in
-    let t = added-not st a.i a.link a.round.0 (sym c.announced_by.ensures ∙ c.if-announced_by.false) in
+pub returns-then-not-is_announcer : goal.returns-then-not-is_announcer
+returns-then-not-is_announcer c =
+    let s = state c.args.self.now in
+    let by = c.args.by in
+    let t = added-not s c.args.missing by.link by.round.0 (sym (there (goal.at.returns-then-not-is_announcer c).After-is_announcer) ∙ c.if-not-is_announcer.true) in
     let g = c.push_announcer.ensures in
-    record { state = g.state ∙ sym (ap (λ (hs : List Hop). hops_to a.i hs st) t); sound = g.sound }
+    record { state = g.state ∙ sym (ap (λ (hs : List Hop). hops_to c.args.missing hs s) t); loan = g.loan }
+
+pub returns-else-not-is_announcer : goal.returns-else-not-is_announcer
+returns-else-not-is_announcer c =
+    let s = state c.args.self.now in
+    let by = c.args.by in
+    let t = added-there s c.args.missing by.link by.round.0 (sym (there (goal.at.returns-else-not-is_announcer c).After-is_announcer) ∙ c.if-not-is_announcer.false) in
+    record { state = sym (ap (λ (hs : List Hop). hops_to c.args.missing hs s) t ∙ hops-same s c.args.missing (up_of (keys s.missing) c.requires.up.1) c.requires.there.0); loan = refl }

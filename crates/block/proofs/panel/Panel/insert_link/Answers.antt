@@ -1,5 +1,5 @@
 -- The raised numbers and the row more are a link more.
-use Rattle.std.proofs.Common.{refl, ◌+◌, ◌<◌, arith, lit<}
+use Rattle.std.proofs.Common.{refl, ◌+◌, arith, lit<}
 use Rattle.storage.specs.Lists.Map.{insert}
 use Rattle.block.specs.View.{limits_of}
 use Rattle.block.specs.Goes.{Goes}

@@ -1,14 +1,28 @@
--- `insert_missing`: the row more is a missing message more.
-use Rattle.std.proofs.Common.{rules, arith}
+-- The row more is a missing message more.
+use Rattle.std.proofs.Common.{rules, arith, ◌+◌, refl}
 use Rattle.storage.specs.Rows.Ident.{id_of}
+use Rattle.block.specs.Goes.{Goes}
+use Rattle.block.specs.Heads.{with_missing_count}
+use Rattle.block.specs.MissingSteps.{miss_also}
+use Rattle.block.proofs.Lent.{given_back}
 use Rattle.block.proofs.MissingLaws.{count-missed, missing-in}
 use Rattle.block.proofs.panel.Panel.insert_missing.Goals as goal
+use Rattle.block.proofs.panel.Panel.insert_missing.Goals.{After-insert}
 
 pub insert-requires : goal.insert-requires
 insert-requires c =
-    (omega (arith, c.requires.1.within, count-missed c.args.self.now.head c.args.self.now.block.now), search rules)
+    let p = c.args.self.now in
+    (omega (arith, c.requires.place.within, count-missed p.head p.block.now), search rules)
+
+goes : (c : After-insert) → let p = c.args.self.now in
+    Goes (miss_also (id_of c.args.id)) p.head p.block.now (with_missing_count (p.head.live.missing + 1) p.head) (given_back c.rows.result p.block.now c.insert.new.bytes)
+goes c =
+    let p = c.args.self.now in
+    missing-in p.head p.block.now c.rows.result c.rows.ensures c.args.i (id_of c.args.id) c.none-announcers.result.0 c.insert.new.bytes p.sound c.requires.room c.insert.auto.bytes
+    c.none-announcers.ensures c.requires.place c.insert.ensures
+
+pub invariant_of-self : goal.invariant_of-self
+invariant_of-self c = record { sound = (goes (goal.at.invariant_of-self c).After-insert).sound }
 
 pub returns : goal.returns
-returns c =
-    missing-in c.args.self.now.head c.args.self.now.block.now c.rows.result c.rows.ensures c.args.i (id_of c.args.id) c.none-announcers.result.0 c.insert.new.bytes c.requires.0 c.requires.2 c.insert.auto.bytes
-    c.none-announcers.ensures c.requires.1 c.insert.ensures
+returns c = record { state = (goes (goal.at.returns c).After-insert).state; loan = refl }

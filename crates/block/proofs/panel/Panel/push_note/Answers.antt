@@ -1,14 +1,41 @@
--- `push`: number and row are a note more.
-use Rattle.std.proofs.Common.{ap, ℕ, ◌+◌, arith, length-set}
+-- Number and row are a note more.
+use Rattle.std.proofs.Common.{◌≡◌, sym, subst, ap, ℕ, ◌+◌, arith, length-set, refl, set}
 use Rattle.storage.specs.Rows.Ident.{id_of}
+use Rattle.block.specs.Goes.{Goes}
+use Rattle.block.specs.NoteSteps.{note_also, with_note_count}
+use Rattle.block.specs.declared.note.NoteTable.{NoteTable}
+use Rattle.block.specs.declared.note.NoteTable.TheVariants.{Queue, Record}
+use Rattle.block.proofs.Lent.{given_back}
+use Rattle.block.proofs.LinkLaws.{count-links}
 use Rattle.block.proofs.NoteLaws.{note-more}
 use Rattle.block.proofs.panel.Panel.push_note.Goals as goal
+use Rattle.block.proofs.panel.Panel.push_note.Goals.{After-push}
+
+pub overflow_cast-block : goal.overflow_cast-block
+overflow_cast-block c = let p = c.args.self.now in omega (arith, c.requires.link, count-links p.head p.block.now, p.sound.fit.within.links, p.sound.fit.ceilings.N)
 
 pub slice_bounds-push-end : goal.slice_bounds-push-end
-slice_bounds-push-end c = omega (arith, length-set {A = ℕ}, c.rows.ensures.within)
+slice_bounds-push-end c = let p = c.args.self.now in omega (arith, length-set {A = ℕ}, c.rows-rows.ensures.within, p.sound.fit.long)
 
-pub returns : goal.returns
-returns c =
-    let a = c.args in
-    note-more a.head a.block.now c.requires.0 a.self c.count-n.result a.note.link (id_of a.note.id) a.note.round.0 _ c.rows.result c.push.new.bytes c.requires.1 (ap (λ (n : ℕ). n + c.count-n.result) c.numbers_at.ensures.place) c.rows.ensures.span c.push.auto.bytes
-    c.count-n.ensures c.requires.2 (cc (c.push.ensures, c.row.ensures, c.count-n.ensures))
+-- for the table as the match has it
+goes : (c : After-push) (of : NoteTable) → c.args.of ≡ of → let p = c.args.self.now in
+    Goes (note_also c.args.of c.args.note.link (id_of c.args.note.id) c.args.note.round.0) p.head p.block.now (with_note_count of (c.count-n.result + 1) p.head)
+    (given_back c.rows-rows.result (set p.block.now (c.numbers_at.result + c.count-n.result) c.args.note.link) c.push.new.bytes)
+goes c of e =
+    let p = c.args.self.now in
+    let n = c.count-n.result in
+    subst (λ (t : NoteTable). Goes (note_also c.args.of c.args.note.link (id_of c.args.note.id) c.args.note.round.0) p.head p.block.now (with_note_count t (n + 1) p.head) (given_back c.rows-rows.result (set p.block.now (c.numbers_at.result + n) c.args.note.link) c.push.new.bytes)) e
+    (note-more p.head p.block.now p.sound c.args.of n c.args.note.link (id_of c.args.note.id) c.args.note.round.0 _ c.rows-rows.result c.push.new.bytes c.requires.link
+    (ap (λ (a : ℕ). a + n) c.numbers_at.ensures.place) c.rows-rows.ensures.span c.push.auto.bytes c.count-n.ensures c.requires.room (cc (c.push.ensures, c.row.ensures)))
+
+pub invariant_of-self : goal.invariant_of-self
+invariant_of-self c = record { sound = (goes (goal.at.invariant_of-self c).After-push Queue c.in-Queue.is).sound }
+
+pub returns-in-Queue : goal.returns-in-Queue
+returns-in-Queue c = record { state = (goes (goal.at.returns-in-Queue c).After-push Queue c.in-Queue.is).state; loan = refl }
+
+pub invariant_of-self-in-Record : goal.invariant_of-self-in-Record
+invariant_of-self-in-Record c = record { sound = (goes (goal.at.invariant_of-self-in-Record c).After-push Record c.in-Record.is).sound }
+
+pub returns-in-Record : goal.returns-in-Record
+returns-in-Record c = record { state = (goes (goal.at.returns-in-Record c).After-push Record c.in-Record.is).state; loan = refl }

@@ -25,8 +25,8 @@ goes c =
     let i = c.args.link in
     let m = mark_value c.args.mark in
     let peer = ap (λ (l : NumberedLink). l.peer) c.link-peer.ensures
-        ∙ sym (link-key (shown c.view.result) i)
-        ∙ ap (λ (s : State). peer_at s i) (same-state p c.view.result c.view.ensures.head c.view.ensures.block) in
+    ∙ sym (link-key (shown c.view.result) i)
+    ∙ ap (λ (s : State). peer_at s i) (same-state p c.view.result c.view.ensures.head c.view.ensures.block) in
     mark-goes p.head p.block.now c.rows.result c.rows.ensures i m c.store.new.bytes p.sound c.requires.0 (omega (arith, c.requires.1, count-links p.head p.block.now)) c.store.auto.bytes
     (c.store.ensures ∙ ap (λ (k : ℕ). put i (entry k m ∷ []) (listed 16 link_of p.head.live.links (lent_at c.rows.result p.block.now))) peer)
 

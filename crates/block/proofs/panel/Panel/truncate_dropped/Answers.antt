@@ -1,4 +1,5 @@
-use Rattle.std.proofs.Common.{arith, refl, ◌≤◌}
+-- Fewer rows counted are the first notes.
+use Rattle.std.proofs.Common.{refl, ◌≤◌, arith}
 use Rattle.block.proofs.NoteLaws.{count-dropped}
 use Rattle.block.proofs.CutLaws.{cut-goes}
 use Rattle.block.proofs.panel.Panel.truncate_dropped.Goals as goal

@@ -1,18 +1,24 @@
--- `missing::announcer_at` meets its contract: number and round read are an announcer of the view.
+-- Number and round read are an announcer.
 use Rattle.std.proofs.Common.{subst, ℕ, arith}
 use Rattle.block.specs.HopSteps.{HopIn}
-use Rattle.block.proofs.MissingLaws.{missed-count, missed-few, missed-hop}
+use Rattle.block.proofs.MissingLaws.{missing-below, place-asked, list-within, missed-count, missed-few, missed-hop}
 use Rattle.block.proofs.panel.View.announcer.Goals as goal
+
+pub announcers_place-requires : goal.announcers_place-requires
+announcers_place-requires c = let v = c.args.self.now in place-asked v.head.now v.block.now c.args.missing v.sound c.requires.0
 
 pub hop_at-requires : goal.hop_at-requires
 hop_at-requires c =
-    let a = c.args in
-    let few = missed-few a.head a.block.now c.requires.0 a.i c.requires.1 in
-    let count = missed-count a.head a.block.now c.requires.0 a.i c.requires.1 in
-    (omega (arith, few, count, c.requires.2), omega (arith, c.requires.0, c.requires.1, c.announcers_place-at.ensures))
+    let v = c.args.self.now in
+    let i = c.args.missing in
+    let q = missing-below v.head.now v.block.now i c.requires.0 in
+    let few = missed-few v.head.now v.block.now v.sound i q in
+    let count = missed-count v.head.now v.block.now v.sound i q in
+    (omega (arith, few, count, c.requires.1), omega (arith, list-within v.head.now v.block.now v.sound i q, c.announcers_place.ensures))
 
 pub returns : goal.returns
 returns c =
-    let a = c.args in
-    missed-hop a.head a.block.now c.requires.0 a.i c.requires.1 a.j c.hop_at.result c.requires.2
-    (subst (λ (n : ℕ). HopIn n a.j a.block.now c.hop_at.result) (c.announcers_place-at.ensures) c.hop_at.ensures)
+    let v = c.args.self.now in
+    let i = c.args.missing in
+    missed-hop v.head.now v.block.now v.sound i (missing-below v.head.now v.block.now i c.requires.0) c.args.number c.hop_at.result c.requires.1
+    (subst (λ (n : ℕ). HopIn n c.args.number v.block.now c.hop_at.result) c.announcers_place.ensures c.hop_at.ensures)

@@ -8,4 +8,4 @@ use Rattle.block.proofs.panel.View.find_missing.Goals as goal
 pub returns : goal.returns
 returns c =
     let s = shown c.args.self.now in
-    subst (λ (o : Option ℕ). MissingOf s (id_of c.args.id) o) (sym c.ok.ensures.value) (found-missing s (id_of c.args.id) c.find_missing.result c.requires c.find_missing.ensures)
+    subst (λ (o : Option ℕ). MissingOf s (id_of c.args.id) o) (sym c.ok.ensures.value) (found-missing s (id_of c.args.id) c.search_missing.result c.requires c.search_missing.ensures)

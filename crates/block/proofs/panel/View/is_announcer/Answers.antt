@@ -1,57 +1,53 @@
--- `missing::announced_by` meets its contract: no announcer passed is of the link.
-use Rattle.std.proofs.Common.{◌≡◌, refl, sym, ap, ◌∙◌, true, false, List, ℕ, ◌<◌, eq-eqb, ne_eqb, eqb, length, get_or, arith}
+-- No announcer passed is of the link.
+use Rattle.std.proofs.Common.{◌≡◌, refl, sym, ap, ◌∙◌, true, false, ℕ, ◌<◌, eq-eqb, ne_eqb, eqb, length, get_or, arith}
+use lib.ListN.{length-map}
 use Rattle.storage.specs.Lists.Base.{any}
 use Rattle.storage.specs.Lists.Map.{keys}
 use Rattle.time_cache.proofs.Orders.{up_of}
 use Rattle.protocol.specs.State.{State, Hop}
-use Rattle.block.specs.View.{state_of}
 use Rattle.block.specs.LinkSteps.{peer_at}
 use Rattle.block.specs.MissingSteps.{hop, hops_at, from_peer}
-use Rattle.block.proofs.LinkLaws.{count-peers}
+use Rattle.block.specs.Views.{shown}
 use Rattle.block.proofs.Scans.{keys-apart, any_found, any-drop}
 use Rattle.block.proofs.panel.View.is_announcer.Goals as goal
-use Rattle.block.proofs.panel.View.is_announcer.Goals.{After-announcer_at, Start}
+use Rattle.block.proofs.panel.View.is_announcer.Goals.{After-announcer}
 
-pub loop-j-init : goal.loop-j-init
+pub loop-number-init : goal.loop-number-init
 unfolding any
-loop-j-init c = refl
+loop-number-init c = refl
 
 -- the announcer that was read, and the test of it
-module _ (d : After-announcer_at) where
-  abbrev s : Start
-  s = (goal.at.After-announcer_at d).Start
-
-  abbrev st : State
-  st = state_of s.args.head s.args.block.now
-
-  abbrev hs : List Hop
-  hs = hops_at st s.args.i
-
-  abbrev p : ℕ
-  p = peer_at st s.args.link
+module _ (d : After-announcer) where
+  abbrev s : State
+  s = shown d.args.self.now
 
   abbrev j : ℕ
-  j = d.loop-j.j
+  j = d.loop-number.number
 
-  here : j < length hs
-  here = omega (arith, d.announcers_of-j-end.ensures.0, d.loop-j-test.true)
+  abbrev x : Hop
+  x = get_or (hops_at s d.args.missing) j (hop 0 0)
 
-  who : (get_or hs j (hop 0 0)).peer ≡ peer_at st d.announcer_at.result.link
-  who = ap (λ (x : Hop). x.peer) d.announcer_at.ensures.same
+  here : j < length (hops_at s d.args.missing)
+  here = omega (arith, d.announcer_count-number-end.ensures.0, d.loop-number-test.true)
 
-  is-from : d.announcer_at.result.link ≡ s.args.link → eqb (get_or hs j (hop 0 0)).peer p ≡ true
-  is-from t = eq-eqb (get_or hs j (hop 0 0)).peer p (who ∙ ap (peer_at st) t)
+  who : x.peer ≡ peer_at s d.announcer.result.link
+  who = ap (λ (y : Hop). y.peer) d.announcer.ensures.same
 
-  is-not : (d.announcer_at.result.link ≡ s.args.link → ⊥) → eqb (get_or hs j (hop 0 0)).peer p ≡ false
+  is-from : d.announcer.result.link ≡ d.args.link → eqb x.peer (peer_at s d.args.link) ≡ true
+  is-from t = eq-eqb x.peer (peer_at s d.args.link) (who ∙ ap (peer_at s) t)
+
+  is-not : (d.announcer.result.link ≡ d.args.link → ⊥) → eqb x.peer (peer_at s d.args.link) ≡ false
   is-not t =
-      let k : length (keys st.links) ≡ s.args.head.live.links = count-peers s.args.head s.args.block.now in
-      let r : d.announcer_at.result.link < s.args.head.live.links = d.announcer_at.ensures.below in
-      ne_eqb (get_or hs j (hop 0 0)).peer p (λ z. keys-apart (keys st.links) d.announcer_at.result.link s.args.link (up_of (keys st.links) s.requires.1) (omega arith) (omega (arith, s.requires.3)) t (sym who ∙ z))
+      let k : length (keys s.links) ≡ length s.links = length-map s.links (λ e. e.key) in
+      let r : d.announcer.result.link < length s.links = d.announcer.ensures.below in
+      ne_eqb x.peer (peer_at s d.args.link) (λ z. keys-apart (keys s.links) d.announcer.result.link d.args.link (up_of (keys s.links) d.requires.0) (omega arith) (omega (arith, d.requires.2)) t (sym who ∙ z))
 
-pub returns-then-announcer_at-link : goal.returns-then-announcer_at-link
-returns-then-announcer_at-link c =
-    sym (any_found (from_peer (p (goal.at.returns-then-announcer_at-link c).After-announcer_at)) (j (goal.at.returns-then-announcer_at-link c).After-announcer_at) (hop 0 0) (hs (goal.at.returns-then-announcer_at-link c).After-announcer_at) (here (goal.at.returns-then-announcer_at-link c).After-announcer_at) (is-from (goal.at.returns-then-announcer_at-link c).After-announcer_at c.if-announcer_at-link.true))
+pub returns-then-announcer-link : goal.returns-then-announcer-link
+returns-then-announcer-link c =
+    let d = (goal.at.returns-then-announcer-link c).After-announcer in
+    sym (any_found (from_peer (peer_at (s d) c.args.link)) (j d) (hop 0 0) (hops_at (s d) c.args.missing) (here d) (is-from d c.if-announcer-link.true))
 
-pub loop-j-preserved : goal.loop-j-preserved
-loop-j-preserved c =
-    any-drop (from_peer (p (goal.at.loop-j-preserved c).After-announcer_at)) (j (goal.at.loop-j-preserved c).After-announcer_at) (hop 0 0) (hs (goal.at.loop-j-preserved c).After-announcer_at) (here (goal.at.loop-j-preserved c).After-announcer_at) (is-not (goal.at.loop-j-preserved c).After-announcer_at c.if-announcer_at-link.false) ∙ c.loop-j.invariant
+pub loop-number-preserved : goal.loop-number-preserved
+loop-number-preserved c =
+    let d = (goal.at.loop-number-preserved c).After-announcer in
+    any-drop (from_peer (peer_at (s d) c.args.link)) (j d) (hop 0 0) (hops_at (s d) c.args.missing) (here d) (is-not d c.if-announcer-link.false) ∙ c.loop-number.invariant

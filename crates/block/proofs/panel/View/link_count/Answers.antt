@@ -3,4 +3,4 @@ use Rattle.block.proofs.LinkLaws.{count-links}
 use Rattle.block.proofs.panel.View.link_count.Goals as goal
 
 pub returns : goal.returns
-returns c = sym (count-links _ _)
+returns c = let v = c.args.self.now in sym (count-links v.head.now v.block.now)

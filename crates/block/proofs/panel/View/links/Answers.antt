@@ -5,4 +5,4 @@ use Rattle.block.proofs.panel.View.links.Goals as goal
 
 pub returns : goal.returns
 unfolding links_left
-returns c = record { items = refl; few = few-links _ _ c.args.self.now.sound }
+returns c = let v = c.args.self.now in record { items = refl; few = few-links v.head.now v.block.now v.sound }

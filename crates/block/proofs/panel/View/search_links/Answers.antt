@@ -1,5 +1,5 @@
 -- The search goes on until a peer that is not below the one sought.
-use Rattle.std.proofs.Common.{◌≡◌, ◌+◌, ◌<◌, ℕ, List, length, get_or, sym, ap, ◌∙◌, arith}
+use Rattle.std.proofs.Common.{◌≡◌, ℕ, List, length, get_or, sym, ap, ◌∙◌, arith}
 use lib.ListN.{length-map}
 use Rattle.storage.specs.Lists.Map.{keys}
 use Rattle.time_cache.proofs.Orders.{up_of}

@@ -2,21 +2,16 @@
 use Rattle.std.proofs.Common.{◌≡◌, sym, ap, ◌∙◌, ℕ, List, subst, inl, inr}
 use borrow.Author.Tests.{eqb-false}
 use Rattle.postcard.specs.Message.{Neighbors, Emitted}
-use Rattle.wire.specs.Encode.Intake.{Intake, after, RoomFor}
+use Rattle.wire.specs.Encode.Intake.{Intake, after}
 use Rattle.decide.specs.Settled.{settled}
 use Rattle.block.specs.Views.{shown}
 use Rattle.steps.proofs.ActionLaws.{one-action, no-action}
 use Rattle.machine.specs.Kinds.Meaning.{StepHeld, SenderIs, step_actions, step_far}
 use Rattle.machine.specs.Steps.{event_bytes}
 use Rattle.machine.specs.declared.kinds.Step.{Step}
-use Rattle.machine.proofs.ActionsLaws.{step_bytes, first-room, step-room, step-done, none-done}
+use Rattle.machine.proofs.ActionsLaws.{step_bytes, step-done, none-done}
 use Rattle.machine.proofs.actions.ActionsEncode.encode.Goals as goal
 use Rattle.machine.proofs.actions.ActionsEncode.encode.Goals.{After-first_event_actions}
-
-pub first_event_actions-requires : goal.first_event_actions-requires
-first_event_actions-requires g c =
-    let a = c.args.self.now in
-    record { rest = a.rest; room = first-room a.call.now a.step (shown a.view.now) (g.S.Sink.intake c.args.out.now) c.requires }
 
 -- once a first event's actions are written: the step's, by what the match tells of it
 module _ (g : _) (d : After-first_event_actions g) where
@@ -29,11 +24,6 @@ module _ (g : _) (d : After-first_event_actions g) where
   as-step : {r : Step} → d.args.self.now.step ≡ r → bytes_of d.args.self.now.step ≡ bytes_of r
   as-step = ap bytes_of
 
-  has-room : {bs : List ℕ} → bytes_of d.args.self.now.step ≡ bs → RoomFor bs stands
-  has-room e =
-      let a = d.args.self.now in
-      step-room a.call.now a.step (shown a.view.now) (g.S.Sink.intake d.args.out.now) d.requires _ stands e d.first_event_actions.ensures
-
   done : {bs : List ℕ} {k : Intake} → bytes_of d.args.self.now.step ≡ bs → k ≡ after bs stands
       → k ≡ after (event_bytes d.args.self.now.call.now d.args.self.now.step (shown d.args.self.now.view.now)) (g.S.Sink.intake d.args.out.now)
   done e p =
@@ -41,24 +31,17 @@ module _ (g : _) (d : After-first_event_actions g) where
       step-done a.call.now a.step (shown a.view.now) (g.S.Sink.intake d.args.out.now) stands _ _ e d.first_event_actions.ensures p
 
 pub gossip_actions-requires : goal.gossip_actions-requires
-unfolding step_actions step_far
+unfolding step_far
 gossip_actions-requires g c =
-    let d = (goal.at.gossip_actions-requires g c).After-first_event_actions in
     let a = c.args.self.now in
     let far = sym (ap step_far c.in-NewSwarm.is) ∙ a.near in
-    record { rest = (a.rest, eqb-false c.in-NewSwarm.message.round.0 65535 far); room = has-room g d (as-step g d c.in-NewSwarm.is) }
+    record { rest = (a.rest, eqb-false c.in-NewSwarm.message.round.0 65535 far) }
 
 pub returns-in-NewSwarm : goal.returns-in-NewSwarm
 unfolding step_actions step_far
 returns-in-NewSwarm g c =
     let d = (goal.at.returns-in-NewSwarm g c).After-first_event_actions in
     done g d (as-step g d c.in-NewSwarm.is) c.gossip_actions.ensures
-
-pub neighbors_actions-requires : goal.neighbors_actions-requires
-unfolding step_actions
-neighbors_actions-requires g c =
-    let d = (goal.at.neighbors_actions-requires g c).After-first_event_actions in
-    has-room g d (as-step g d c.in-NewNeighbors.is ∙ one-action (Emitted c.in-NewNeighbors.sender c.in-NewNeighbors.content.now Neighbors))
 
 pub returns-in-NewNeighbors : goal.returns-in-NewNeighbors
 unfolding step_actions
@@ -67,11 +50,7 @@ returns-in-NewNeighbors g c =
     done g d (as-step g d c.in-NewNeighbors.is ∙ one-action (Emitted c.in-NewNeighbors.sender c.in-NewNeighbors.content.now Neighbors)) c.neighbors_actions.ensures
 
 pub late_actions-requires : goal.late_actions-requires
-unfolding step_actions
-late_actions-requires g c =
-    let d = (goal.at.late_actions-requires g c).After-first_event_actions in
-    let a = c.args.self.now in
-    record { rest = (a.rest, subst (λ (r : Step). SenderIs a.call.now.peer r) c.in-Late.is a.sender); room = has-room g d (as-step g d c.in-Late.is) }
+late_actions-requires g c = let a = c.args.self.now in record { rest = (a.rest, subst (λ (r : Step). SenderIs a.call.now.peer r) c.in-Late.is a.sender) }
 
 pub returns-in-Late : goal.returns-in-Late
 unfolding step_actions
@@ -80,11 +59,7 @@ returns-in-Late g c =
     done g d (as-step g d c.in-Late.is) c.late_actions.ensures
 
 pub graft_actions-requires : goal.graft_actions-requires
-unfolding step_actions
-graft_actions-requires g c =
-    let d = (goal.at.graft_actions-requires g c).After-first_event_actions in
-    let a = c.args.self.now in
-    record { rest = (a.rest, subst (λ (r : Step). StepHeld (shown a.view.now) r) c.in-Graft.is a.held); room = has-room g d (as-step g d c.in-Graft.is) }
+graft_actions-requires g c = let a = c.args.self.now in record { rest = (a.rest, subst (λ (r : Step). StepHeld (shown a.view.now) r) c.in-Graft.is a.held) }
 
 pub returns-in-Graft : goal.returns-in-Graft
 unfolding step_actions
@@ -92,25 +67,11 @@ returns-in-Graft g c =
     let d = (goal.at.returns-in-Graft g c).After-first_event_actions in
     done g d (as-step g d c.in-Graft.is) c.graft_actions.ensures
 
-pub ihave_actions-requires : goal.ihave_actions-requires
-unfolding step_actions
-ihave_actions-requires g c =
-    let d = (goal.at.ihave_actions-requires g c).After-first_event_actions in
-    let a = c.args.self.now in
-    record { rest = a.rest; room = has-room g d (as-step g d c.in-IHave.is) }
-
 pub returns-in-IHave : goal.returns-in-IHave
 unfolding step_actions
 returns-in-IHave g c =
     let d = (goal.at.returns-in-IHave g c).After-first_event_actions in
     done g d (as-step g d c.in-IHave.is) c.ihave_actions.ensures
-
-pub broadcast_actions-requires : goal.broadcast_actions-requires
-unfolding step_actions
-broadcast_actions-requires g c =
-    let d = (goal.at.broadcast_actions-requires g c).After-first_event_actions in
-    let a = c.args.self.now in
-    record { rest = a.rest; room = has-room g d (as-step g d c.in-Broadcast.is) }
 
 pub returns-in-Broadcast : goal.returns-in-Broadcast
 unfolding step_actions
@@ -118,25 +79,11 @@ returns-in-Broadcast g c =
     let d = (goal.at.returns-in-Broadcast g c).After-first_event_actions in
     done g d (as-step g d c.in-Broadcast.is) c.broadcast_actions.ensures
 
-pub send_graft_actions-requires : goal.send_graft_actions-requires
-unfolding step_actions
-send_graft_actions-requires g c =
-    let d = (goal.at.send_graft_actions-requires g c).After-first_event_actions in
-    let a = c.args.self.now in
-    record { rest = a.rest; room = has-room g d (as-step g d c.in-SendGraft.is) }
-
 pub returns-in-SendGraft : goal.returns-in-SendGraft
 unfolding step_actions
 returns-in-SendGraft g c =
     let d = (goal.at.returns-in-SendGraft g c).After-first_event_actions in
     done g d (as-step g d c.in-SendGraft.is) c.send_graft_actions.ensures
-
-pub dispatch_actions-requires : goal.dispatch_actions-requires
-unfolding step_actions
-dispatch_actions-requires g c =
-    let d = (goal.at.dispatch_actions-requires g c).After-first_event_actions in
-    let a = c.args.self.now in
-    record { rest = a.rest; room = has-room g d (as-step g d c.in-DispatchLazyPush.is) }
 
 pub returns-in-DispatchLazyPush : goal.returns-in-DispatchLazyPush
 unfolding step_actions
@@ -144,25 +91,11 @@ returns-in-DispatchLazyPush g c =
     let d = (goal.at.returns-in-DispatchLazyPush g c).After-first_event_actions in
     done g d (as-step g d c.in-DispatchLazyPush.is) c.dispatch_actions.ensures
 
-pub evict_actions-requires : goal.evict_actions-requires
-unfolding step_actions
-evict_actions-requires g c =
-    let d = (goal.at.evict_actions-requires g c).After-first_event_actions in
-    let a = c.args.self.now in
-    record { rest = a.rest; room = has-room g d (as-step g d c.in-EvictCache.is) }
-
 pub returns-in-EvictCache : goal.returns-in-EvictCache
 unfolding step_actions
 returns-in-EvictCache g c =
     let d = (goal.at.returns-in-EvictCache g c).After-first_event_actions in
     done g d (as-step g d c.in-EvictCache.is) c.evict_actions.ensures
-
-pub announce_actions-requires : goal.announce_actions-requires
-unfolding step_actions
-announce_actions-requires g c =
-    let d = (goal.at.announce_actions-requires g c).After-first_event_actions in
-    let a = c.args.self.now in
-    record { rest = a.rest; room = has-room g d (as-step g d c.in-AnnounceDropped.is) }
 
 pub returns-in-AnnounceDropped : goal.returns-in-AnnounceDropped
 unfolding step_actions

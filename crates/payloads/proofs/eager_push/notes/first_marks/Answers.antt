@@ -8,17 +8,17 @@ use Rattle.payloads.proofs.eager_push.notes.first_marks.Goals as goal
 use Rattle.payloads.proofs.eager_push.notes.first_marks.Goals.{then-back, else-back}
 
 pub offset_bounds-marks-link : goal.offset_bounds-marks-link
-offset_bounds-marks-link c = omega (arith, c.loop-link-test.true, c.link_count-link-end.ensures, links-few c.args.view.now.head c.args.view.now.block.now c.args.view.now.sound)
+offset_bounds-marks-link c = omega (arith, c.loop-link-test.true, c.link_count-link-end.ensures, links-few c.args.view.now.head.now c.args.view.now.block.now c.args.view.now.sound)
 
 pub bounds-marks-link : goal.bounds-marks-link
-bounds-marks-link c = omega (arith, c.loop-link-test.true, c.link_count-link-end.ensures, links-few c.args.view.now.head c.args.view.now.block.now c.args.view.now.sound)
+bounds-marks-link c = omega (arith, c.loop-link-test.true, c.link_count-link-end.ensures, links-few c.args.view.now.head.now c.args.view.now.block.now c.args.view.now.sound)
 
 pub loop-link-preserved : goal.loop-link-preserved
 loop-link-preserved c =
     let l = c.loop-link in
     let s = shown c.args.view.now in
     let back : ℕ → Bool = λ k. hands_back c.args.push.now.sender (skipped_peers c.args.push.now.skip s) c.args.call.now.rooms.now.links s k in
-    let b : l.link < 32 = omega (arith, c.loop-link-test.true, c.link_count-link-end.ensures, links-few c.args.view.now.head c.args.view.now.block.now c.args.view.now.sound) in
+    let b : l.link < 32 = omega (arith, c.loop-link-test.true, c.link_count-link-end.ensures, links-few c.args.view.now.head.now c.args.view.now.block.now c.args.view.now.sound) in
     record {
       each = set_more (λ (k x : ℕ). x ≡ (if back k then 0 else 256)) l.marks l.link c.if-back.marks (omega (arith, l.invariant.long, b)) l.invariant.each
           (elim c.if-back.branch [

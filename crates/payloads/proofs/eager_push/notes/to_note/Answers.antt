@@ -14,22 +14,22 @@ loop-link-init c =
     rw c.new-noted.ensures (record { few = omega arith; links = search rules; noted = noted-none c.args.call.now c.args.push.now (id_of c.args.id) (shown c.args.view.now) c.requires.0 })
 
 pub bounds-marks-link : goal.bounds-marks-link
-bounds-marks-link c = omega (arith, c.loop-link-test.true, c.link_count-link-end.ensures, links-few c.args.view.now.head c.args.view.now.block.now c.args.view.now.sound)
+bounds-marks-link c = omega (arith, c.loop-link-test.true, c.link_count-link-end.ensures, links-few c.args.view.now.head.now c.args.view.now.block.now c.args.view.now.sound)
 
 pub offset_bounds-marks-link : goal.offset_bounds-marks-link
-offset_bounds-marks-link c = omega (arith, c.loop-link-test.true, c.link_count-link-end.ensures, links-few c.args.view.now.head c.args.view.now.block.now c.args.view.now.sound)
+offset_bounds-marks-link c = omega (arith, c.loop-link-test.true, c.link_count-link-end.ensures, links-few c.args.view.now.head.now c.args.view.now.block.now c.args.view.now.sound)
 
 pub overflow_add-view : goal.overflow_add-view
 overflow_add-view c =
     let s = c.args.view.now.sound in
-    omega (arith, c.loop-link.invariant.few, c.len.ensures.value, c.loop-link-test.true, c.link_count-link-end.ensures, links-few c.args.view.now.head c.args.view.now.block.now s, s.fit.within.dropped, s.fit.ceilings.D)
+    omega (arith, c.loop-link.invariant.few, c.len.ensures.value, c.loop-link-test.true, c.link_count-link-end.ensures, links-few c.args.view.now.head.now c.args.view.now.block.now s, s.fit.within.dropped, s.fit.ceilings.D)
 
 pub push-requires : goal.push-requires
 push-requires c =
-    omega (arith, c.loop-link.invariant.few, c.loop-link-test.true, c.link_count-link-end.ensures, links-few c.args.view.now.head c.args.view.now.block.now c.args.view.now.sound)
+    omega (arith, c.loop-link.invariant.few, c.loop-link-test.true, c.link_count-link-end.ensures, links-few c.args.view.now.head.now c.args.view.now.block.now c.args.view.now.sound)
 
 pub overflow_cast-link : goal.overflow_cast-link
-overflow_cast-link c = omega (arith, c.loop-link-test.true, c.link_count-link-end.ensures, links-few c.args.view.now.head c.args.view.now.block.now c.args.view.now.sound)
+overflow_cast-link c = omega (arith, c.loop-link-test.true, c.link_count-link-end.ensures, links-few c.args.view.now.head.now c.args.view.now.block.now c.args.view.now.sound)
 
 pub loop-link-preserved : goal.loop-link-preserved
 loop-link-preserved c =
@@ -41,7 +41,7 @@ loop-link-preserved c =
     let l = c.loop-link in
     let i = l.invariant in
     let q : l.link < length s.links = omega (arith, c.loop-link-test.true, c.link_count-link-end.ensures) in
-    let d : length s.dropped ≡ v.head.live.dropped = count-dropped v.head v.block.now v.sound in
+    let d : length s.dropped ≡ v.head.now.live.dropped = count-dropped v.head.now v.block.now v.sound in
     let all = wants push.sender (skipped_peers push.skip s) call.rooms.now.links id s (length s.links) c.first_marks.result c.marks_after-marks.result c.first_marks.ensures c.marks_after-marks.ensures in
     let is = λ (b : Bool). λ (e : ltb (get_or c.marks_after-marks.result l.link 0) 256 ≡ b). sym (all.each l.link q) ∙ e in
     elim c.if-marks-link-lt-MAX_DROPPED_PER_PEER.branch [
@@ -70,7 +70,7 @@ returns-clause-noted c =
 
 pub returns-clause-few : goal.returns-clause-few
 returns-clause-few c =
-    omega (arith, c.loop-link.invariant.few, c.loop-link.auto.link-end, c.link_count-link-end.ensures, links-few c.args.view.now.head c.args.view.now.block.now c.args.view.now.sound)
+    omega (arith, c.loop-link.invariant.few, c.loop-link.auto.link-end, c.link_count-link-end.ensures, links-few c.args.view.now.head.now c.args.view.now.block.now c.args.view.now.sound)
 
 -- nothing is handed back
 pub returns-then-not-is_handed_back-clause-noted : goal.returns-then-not-is_handed_back-clause-noted

@@ -17,7 +17,7 @@ loop-link-init g c =
 pub takes-taken-requires : goal.takes-taken-requires
 takes-taken-requires g c =
     let v = c.args.view.now in
-    omega (arith, c.loop-link-test.true, c.link_count-link-end.ensures, few_links v.head v.block.now v.sound)
+    omega (arith, c.loop-link-test.true, c.link_count-link-end.ensures, few_links v.head.now v.block.now v.sound)
 
 pub loop-link-preserved : goal.loop-link-preserved
 loop-link-preserved g c = elim c.if-is_target.branch [

@@ -1,7 +1,7 @@
 -- `Writer::bytes`: as many as fit are put at the place.
-use Rattle.std.proofs.Common.{◌≡◌, ℕ, ◌+◌, ◌-◌, List, take, drop, ap, ◌∙◌, arith}
+use Rattle.std.proofs.Common.{◌≡◌, ◌+◌, ◌-◌, take, drop, ◌∙◌, arith}
 use borrow.Rule.Slice.PartMut.{put_mid}
-use Rattle.wire.specs.Encode.Intake.{Intake, written}
+use Rattle.wire.specs.Encode.Intake.{written}
 use Rattle.wire.proofs.EncodeLaws.IntakeLaws.{copy_after}
 use Rattle.wire.proofs.encode.sink.WriterSink.bytes.Goals as goal
 

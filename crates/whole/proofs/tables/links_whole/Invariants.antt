@@ -1,9 +1,0 @@
--- `links_whole`: the first i peers ascend; a turn compares neighbours.
-use Rattle.std.proofs.Common.{◌<◌}
-use Rattle.storage.specs.Lists.Map.{keys}
-use Rattle.storage.proofs.RowsLaws.Sorted.{AscendTo}
-use Rattle.block.specs.View.{state_of}
-use Rattle.whole.proofs.tables.links_whole.Given as goal
-
-abbrev pub invariant-loop-i : goal.invariant-loop-i
-invariant-loop-i l = (0 < l.i) × AscendTo (keys (state_of l.head l.block).links) l.i

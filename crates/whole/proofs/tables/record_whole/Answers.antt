@@ -1,7 +1,0 @@
--- `record_whole`: an empty record is whole.
-use Rattle.std.proofs.Common.{◌∙◌, eq-eqb}
-use Rattle.whole.proofs.RecordLaws.{record-none}
-use Rattle.whole.proofs.tables.record_whole.Goals as goal
-
-pub returns-then-head-eq0 : goal.returns-then-head-eq0
-returns-then-head-eq0 c = eq-eqb _ _ c.if-head-eq0.true ∙ record-none c.args.head c.args.block.now c.if-head-eq0.true

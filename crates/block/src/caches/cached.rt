@@ -151,7 +151,7 @@ impl<'a> View<'a> {
 }
 
 impl<'a> Panel<'a> {
-    ghost use Rattle.std.specs.Prelude.{◌≡◌, ◌≤◌, []};
+    ghost use Rattle.std.specs.Prelude.{◌≤◌};
     ghost use Rattle.storage.specs.Rows.Ident.{id_of};
     ghost use Rattle.time_cache.specs.TimeCache.{put};
     ghost use Rattle.block.specs.Sound.{held};

@@ -1,5 +1,5 @@
 -- Start and length are those of the content in the view.
-use Rattle.std.proofs.Common.{◌≡◌, ◌+◌, ◌-◌, ◌≤◌, ap, ◌∙◌, ℕ, List, take, drop, length, length-drop, length-take-le, arith}
+use Rattle.std.proofs.Common.{◌≡◌, ◌+◌, ◌-◌, ◌≤◌, ap, ◌∙◌, ℕ, take, drop, length, length-drop, length-take-le, arith}
 use Rattle.storage.specs.Rows.Part.{part}
 use Rattle.block.specs.View.{state_of}
 use Rattle.block.proofs.CachesLaws.ContentReads.{content-ends, content-is}

@@ -65,7 +65,7 @@ impl PanelCache for MessageCache {
 }
 
 impl<'a> View<'a> {
-    ghost use Rattle.std.specs.Prelude.{◌≡◌, ◌<◌, not, All, map, length};
+    ghost use Rattle.std.specs.Prelude.{◌≡◌, ◌<◌, ◌≤◌, not, All, map, length};
     ghost use Rattle.storage.specs.Rows.Ident.{id_of};
     ghost use Rattle.storage.specs.Lists.Base.{is_empty};
     ghost use Rattle.time_cache.specs.TimeCache.{holds, get, due, expired_keys};
@@ -82,7 +82,7 @@ impl<'a> View<'a> {
     }
 
     // The row that a cached message has.
-    fn cached_row(&self, entry: usize) -> usize
+    pub fn cached_row(&self, entry: usize) -> usize
         requires { entry < length (shown self.now).cache.entries }
         ensures at { result ≡ row_of self.now.head.now self.now.block.now entry }
         ensures within { result < self.now.head.now.live.cached_rows }
@@ -93,7 +93,8 @@ impl<'a> View<'a> {
     // The content of a cached message, where it stands in the block.
     pub fn cached_content(&self, entry: usize) -> &'a [u8]
         requires { entry < length (shown self.now).cache.entries }
-        ensures { result.now ≡ (cached_at (shown self.now) entry).content }
+        ensures content { result.now ≡ (cached_at (shown self.now) entry).content }
+        ensures few { length result.now ≤ (shown self.now).limits.B }
     {
         let row = head::cached_rows_at(self.head.limits) + ROW_WIDTH * self.cached_row(entry);
         let start = word::load4(self.block, row + START) as usize;

@@ -3,6 +3,7 @@
 today's code of their function), each beside the code it changes, unproved, and runs it beside the Rust once for each change, at most a minute. Their rows go into RESULTS.md;
 --table writes that file anew and runs nothing. No part of the gate: it tests the tests."""
 import hashlib, os, re, shutil, subprocess, sys, tempfile
+from concurrent.futures import ThreadPoolExecutor
 
 here = os.path.dirname(os.path.abspath(__file__))
 top = os.path.dirname(os.path.dirname(here))
@@ -12,6 +13,8 @@ SECONDS = int(os.environ.get('SECONDS_EACH', '60'))
 # For changes of which mutants.txt says why no call can tell them.
 EXPLAINED = int(os.environ.get('SECONDS_EXPLAINED', '15'))
 SEED = os.environ.get('SEED', '7')
+# How many runs go on at once.
+AT_ONCE = int(os.environ.get('AT_ONCE', '1'))
 
 
 def read_list(path):
@@ -220,11 +223,13 @@ def main():
         build(copy, os.path.join(lib, 'libplumtree.so'))
     beside = harness(lib)
     print('no change chosen:', judge(beside, lib, 0, EXPLAINED), flush=True)
-    for number, m in sorted(enumerate(todo, 1), key=lambda t: t[1][4] is not None):
-        told = judge(beside, lib, number, EXPLAINED if m[4] else SECONDS)
-        rows[named(m)] = (*told, sums[named(m)])
-        write_rows(mutants, rows)
-        print(m[0], m[1], told, flush=True)
+    runs = sorted(enumerate(todo, 1), key=lambda t: t[1][4] is not None)
+    with ThreadPoolExecutor(AT_ONCE) as pool:
+        judged = pool.map(lambda t: judge(beside, lib, t[0], EXPLAINED if t[1][4] else SECONDS), runs)
+        for (_, m), told in zip(runs, judged):
+            rows[named(m)] = (*told, sums[named(m)])
+            write_rows(mutants, rows)
+            print(m[0], m[1], told, flush=True)
 
 
 main()

@@ -43,7 +43,7 @@ rows-few g c =
 peer-is : (g : Over) (c : After-link-peer g) → c.link-peer.result.peer ≡ peer_at (shown c.args.view.now) c.args.queued.now.link
 peer-is g c =
     let v = c.args.view.now in
-    ap (λ (x : Link). x.peer) c.link-peer.ensures ∙ sym (link-key (shown v) c.args.queued.now.link)
+    ap (λ (x : NumberedLink). x.peer) c.link-peer.ensures ∙ sym (link-key (shown v) c.args.queued.now.link)
 
 pub loop-rows-init : goal.loop-rows-init
 loop-rows-init g c =

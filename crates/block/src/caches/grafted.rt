@@ -110,7 +110,7 @@ fn insert_entry(head: &Head, block: &mut [u8], id: Id, expires: Millis) -> Inser
 }
 
 impl<'a> View<'a> {
-    ghost use Rattle.std.specs.Prelude.{◌≡◌, ◌+◌, ◌*◌, ◌≤◌, ◌<◌, leb, length};
+    ghost use Rattle.std.specs.Prelude.{◌*◌, ◌<◌, leb};
     ghost use Rattle.storage.specs.Lists.Base.{any};
     ghost use Rattle.storage.specs.Lists.Map.{keys, has};
     ghost use Rattle.storage.specs.Rows.Sorted.{FoundIs};
@@ -223,14 +223,13 @@ impl<'a> View<'a> {
 }
 
 impl<'a> Panel<'a> {
-    ghost use Rattle.std.specs.Prelude.{◌≡◌, ◌<◌, [], ◌∷◌, length};
+    ghost use Rattle.std.specs.Prelude.{◌<◌, [], ◌∷◌};
     ghost use Rattle.storage.specs.Lists.Map.{keys, entry};
-    ghost use Rattle.storage.specs.Rows.Ident.{id_of};
     ghost use Rattle.storage.specs.Rows.Sorted.{Between, Here};
     ghost use Rattle.protocol.specs.State.{with_grafted};
     ghost use Rattle.block.specs.LinkSteps.{peer_at};
-    ghost use Rattle.block.specs.Caches.InBlock.{InOrder, AtMost, grafted_left};
-    ghost use Rattle.block.specs.Caches.GraftSteps.{grafted_at, grafts_at, first_at, kept_at, Grafting, peers_to, peers_with, no_grafts, entered_state, EnteredAt, graft_noted};
+    ghost use Rattle.block.specs.Caches.InBlock.{grafted_left};
+    ghost use Rattle.block.specs.Caches.GraftSteps.{grafts_at, first_at, kept_at, Grafting, peers_to, peers_with, graft_noted};
     ghost use Rattle.block.specs.Panels.{state, Goes};
 
     // `expire_until` of the grafted messages.

@@ -1,5 +1,5 @@
 -- Number and row are a note more.
-use Rattle.std.proofs.Common.{◌≡◌, sym, subst, ap, ℕ, ◌+◌, arith, length-set, refl, set}
+use Rattle.std.proofs.Common.{◌≡◌, subst, ap, ℕ, ◌+◌, arith, length-set, refl, set}
 use Rattle.storage.specs.Rows.Ident.{id_of}
 use Rattle.block.specs.Goes.{Goes}
 use Rattle.block.specs.NoteSteps.{note_also, with_note_count}

@@ -58,44 +58,44 @@ module _ (h : Head) (xs : List ℕ) (f : Fit h xs) (j : ℕ) where
   cached-row q = expiry-read (limits_of h.limits) 4 4 h.live.cached 5 48 h.live.cached_rows xs (lit< tt) (omega (arith, f)) (lit< tt) (omega (arith, f)) (cached_of (table (limits_of h.limits) 6 xs)) j (cached-row-asks q).1
 
 -- of the list that was told: there is an element j, and there is such a list
-there : (s : Start) (q : Sequence) → s.args.of ≡ q → There s.args.head s.args.block.now s.args.j q
-there s q e = subst (There s.args.head s.args.block.now s.args.j) e s.requires.2
+there : (s : Start) (q : Sequence) → s.args.of ≡ q → There s.args.view.now.head.now s.args.view.now.block.now s.args.j q
+there s q e = subst (There s.args.view.now.head.now s.args.view.now.block.now s.args.j) e s.requires.1
 
 pub row_item-requires : goal.row_item-requires
 row_item-requires c =
-    let a = c.args in
-    subst (RowAsks a.block.now a.j) (sym c.table.ensures.at) (received-row-asks a.head a.block.now c.requires.0.fit a.j (there (goal.at.row_item-requires c).Start ReceivedExpiry c.in-ReceivedExpiry.is))
+    let v = c.args.view.now in
+    subst (RowAsks v.block.now c.args.j) (sym c.table.ensures.at) (received-row-asks v.head.now v.block.now v.sound.fit c.args.j (there (goal.at.row_item-requires c).Start ReceivedExpiry c.in-ReceivedExpiry.is))
 
 pub row_item-requires-in-GraftedExpiry : goal.row_item-requires-in-GraftedExpiry
 row_item-requires-in-GraftedExpiry c =
-    let a = c.args in
-    subst (RowAsks a.block.now a.j) (sym c.table-in-GraftedExpiry.ensures.at) (grafted-row-asks a.head a.block.now c.requires.0.fit a.j (there (goal.at.row_item-requires-in-GraftedExpiry c).Start GraftedExpiry c.in-GraftedExpiry.is))
+    let v = c.args.view.now in
+    subst (RowAsks v.block.now c.args.j) (sym c.table-in-GraftedExpiry.ensures.at) (grafted-row-asks v.head.now v.block.now v.sound.fit c.args.j (there (goal.at.row_item-requires-in-GraftedExpiry c).Start GraftedExpiry c.in-GraftedExpiry.is))
 
 pub row_item-requires-in-CachedExpiry : goal.row_item-requires-in-CachedExpiry
 row_item-requires-in-CachedExpiry c =
-    let a = c.args in
-    subst (RowAsks a.block.now a.j) (sym c.table-in-CachedExpiry.ensures.at) (cached-row-asks a.head a.block.now c.requires.0.fit a.j (there (goal.at.row_item-requires-in-CachedExpiry c).Start CachedExpiry c.in-CachedExpiry.is))
+    let v = c.args.view.now in
+    subst (RowAsks v.block.now c.args.j) (sym c.table-in-CachedExpiry.ensures.at) (cached-row-asks v.head.now v.block.now v.sound.fit c.args.j (there (goal.at.row_item-requires-in-CachedExpiry c).Start CachedExpiry c.in-CachedExpiry.is))
 
 pub returns-in-ReceivedExpiry : goal.returns-in-ReceivedExpiry
 returns-in-ReceivedExpiry c =
-    let a = c.args in
+    let v = c.args.view.now in
     let told = c.in-ReceivedExpiry.is in
     c.row_item.ensures
-    ∙ ap (row_of a.block.now a.j) c.table.ensures.at
-    ∙ sym (ap (item_of a.head a.block.now a.j) told ∙ received-row a.head a.block.now c.requires.0.fit a.j (there (goal.at.returns-in-ReceivedExpiry c).Start ReceivedExpiry told))
+    ∙ ap (row_of v.block.now c.args.j) c.table.ensures.at
+    ∙ sym (ap (item_of v.head.now v.block.now c.args.j) told ∙ received-row v.head.now v.block.now v.sound.fit c.args.j (there (goal.at.returns-in-ReceivedExpiry c).Start ReceivedExpiry told))
 
 pub returns-in-GraftedExpiry : goal.returns-in-GraftedExpiry
 returns-in-GraftedExpiry c =
-    let a = c.args in
+    let v = c.args.view.now in
     let told = c.in-GraftedExpiry.is in
     c.row_item-in-GraftedExpiry.ensures
-    ∙ ap (row_of a.block.now a.j) c.table-in-GraftedExpiry.ensures.at
-    ∙ sym (ap (item_of a.head a.block.now a.j) told ∙ grafted-row a.head a.block.now c.requires.0.fit a.j (there (goal.at.returns-in-GraftedExpiry c).Start GraftedExpiry told))
+    ∙ ap (row_of v.block.now c.args.j) c.table-in-GraftedExpiry.ensures.at
+    ∙ sym (ap (item_of v.head.now v.block.now c.args.j) told ∙ grafted-row v.head.now v.block.now v.sound.fit c.args.j (there (goal.at.returns-in-GraftedExpiry c).Start GraftedExpiry told))
 
 pub returns-in-CachedExpiry : goal.returns-in-CachedExpiry
 returns-in-CachedExpiry c =
-    let a = c.args in
+    let v = c.args.view.now in
     let told = c.in-CachedExpiry.is in
     c.row_item-in-CachedExpiry.ensures
-    ∙ ap (row_of a.block.now a.j) c.table-in-CachedExpiry.ensures.at
-    ∙ sym (ap (item_of a.head a.block.now a.j) told ∙ cached-row a.head a.block.now c.requires.0.fit a.j (there (goal.at.returns-in-CachedExpiry c).Start CachedExpiry told))
+    ∙ ap (row_of v.block.now c.args.j) c.table-in-CachedExpiry.ensures.at
+    ∙ sym (ap (item_of v.head.now v.block.now c.args.j) told ∙ cached-row v.head.now v.block.now v.sound.fit c.args.j (there (goal.at.returns-in-CachedExpiry c).Start CachedExpiry told))

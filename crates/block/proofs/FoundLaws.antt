@@ -1,6 +1,6 @@
 -- What a look-up in the links, the missing and the grafted messages answers.
 -- Assumes nothing.
-use Rattle.std.proofs.Common.{◌≡◌, ℕ, refl, ap, arith, true, List, [], eqb, Result, Ok, Err, Option, Some, None}
+use Rattle.std.proofs.Common.{◌≡◌, ℕ, refl, ap, arith, true, [], eqb, Result, Ok, Err, Option, Some, None}
 use Rattle.std.specs.Result.{result_ok}
 use Rattle.std.specs.Option.{option_eq}
 use Rattle.storage.proofs.ListsLaws.KeyLaws.{eqb-sym}

@@ -4,7 +4,7 @@ use Rattle.std.proofs.Common.{zero, suc, ◌≡◌, ℕ, ◌+◌, ◌-◌, ◌<�
 use Rattle.std.proofs.lemmas.List.{ext_get_or, length-map, get_or-take, get_or-drop, length-take-le, length-drop}
 use lib.ListN.{get_or-map}
 use Rattle.std.proofs.lemmas.List.Elements.{All-from_get_or}
-use Rattle.protocol.specs.State.{State, Note}
+use Rattle.protocol.specs.State.{Note}
 use Rattle.block.specs.Layout.{place}
 use Rattle.block.specs.LinkSteps.{peer_at}
 use Rattle.block.specs.NoteSteps.{note, notes_of, count_of, numbers_of, LinkIs, Column}

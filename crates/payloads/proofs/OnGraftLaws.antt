@@ -219,7 +219,7 @@ module _ (call : Call) (l : ℕ) (w : Option' Id) (id : Id) (m : CachedMessage) 
       ∙ (λ k. (send_head (peer k) b ++ message_bytes (Gossip (id_of id) m.content.now (Swarm m.round.0))) ++ concat_map action_bytes (announce_action (not b) (flag k)))
     where
       peer : peer_at t l ≡ q
-      peer = ap (λ (ls : Links). get_or (keys ls) l 0) (same_links now s) ∙ link-key h xs l (peer_at s l) refl ∙ sym eq
+      peer = ap (λ (ls : Links). get_or (keys ls) l 0) (same_links now s) ∙ link-key s l ∙ sym eq
 
       flag : t.timers.announce ≡ h.live.announce_dropped_scheduled
       flag = same_flag now s ∙ flag_of h xs

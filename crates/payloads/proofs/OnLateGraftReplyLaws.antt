@@ -39,10 +39,10 @@ use Rattle.payloads.specs.OnLateGraftReply.{copy_kind, after_late, late_bytes}
 use Rattle.payloads.specs.declared.on_late_graft_reply.LateCopy.{LateCopy}
 
 -- whether the link of a peer is eager
-pub link-eager : (s : State) (p l : ℕ) → ascending (keys s.links) ≡ true → LinkAt s p l → (k : Link) → k ≡ numbered_link l (link_at s l) → eager_in p s.links ≡ k.eager
+pub link-eager : (s : State) (p l : ℕ) → ascending (keys s.links) ≡ true → LinkAt s p l → (k : NumberedLink) → k ≡ numbered_link l (link_at s l) → eager_in p s.links ≡ k.eager
 link-eager s p l up a k e =
     eager-here p l s.links (up_of (keys s.links) up) (record { within = omega (arith, a.below, length-map s.links (λ e. e.key)); same = a.peer })
-    ∙ ap (λ (x : Link). x.eager) (sym e)
+    ∙ ap (λ (x : NumberedLink). x.eager) (sym e)
 
 -- a stranger is not
 pub stranger-lazy : (p : ℕ) (m : Links) → is_neighbour p m ≡ false → eager_in p m ≡ false

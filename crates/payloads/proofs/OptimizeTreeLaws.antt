@@ -232,18 +232,18 @@ module _ (call : Call) (c : Shortcut) (s : State) (up : ascending (keys s.links)
       second = kth (eqb p q) ∙ ap (λ (b : Bool). leb (if b then 2 else 1) (room c.sender)) same-test
 
   -- the same of what was read
-  module _ (a b : Link) (ea : a ≡ numbered_link c.sender (link_at s c.sender)) (eb : b ≡ numbered_link c.announcer.link (link_at s c.announcer.link)) where
+  module _ (a b : NumberedLink) (ea : a ≡ numbered_link c.sender (link_at s c.sender)) (eb : b ≡ numbered_link c.announcer.link (link_at s c.announcer.link)) where
     pub sent-eager : b.eager ≡ true → (t : Bool) → t ≡ leb 1 (room c.sender) → shortcut_bytes call c s ≡ send_head a.peer t ++ message_bytes Prune
     sent-eager e t f =
-        bytes-eager (ap (λ (x : Link). x.eager) (sym eb) ∙ e)
-        ∙ sym (λ j. send_head ((ap (λ (x : Link). x.peer) ea ∙ link-peer s c.sender) j) (f j) ++ message_bytes Prune)
+        bytes-eager (ap (λ (x : NumberedLink). x.eager) (sym eb) ∙ e)
+        ∙ sym (λ j. send_head ((ap (λ (x : NumberedLink). x.peer) ea ∙ link-peer s c.sender) j) (f j) ++ message_bytes Prune)
 
     pub sent-lazy : b.eager ≡ false → (t u : Bool) → t ≡ leb 1 (room c.announcer.link) → u ≡ leb (if eqb c.sender c.announcer.link then 2 else 1) (room c.sender)
         → shortcut_bytes call c s ≡ (send_head b.peer t ++ message_bytes (Graft None c.announcer.round.0)) ++ (send_head a.peer u ++ message_bytes Prune)
     sent-lazy e t u f g =
-        bytes-lazy (ap (λ (x : Link). x.eager) (sym eb) ∙ e)
-        ∙ sym (λ j. (send_head ((ap (λ (x : Link). x.peer) eb ∙ link-peer s c.announcer.link) j) (f j) ++ message_bytes (Graft None c.announcer.round.0))
-        ++ (send_head ((ap (λ (x : Link). x.peer) ea ∙ link-peer s c.sender) j) (g j) ++ message_bytes Prune))
+        bytes-lazy (ap (λ (x : NumberedLink). x.eager) (sym eb) ∙ e)
+        ∙ sym (λ j. (send_head ((ap (λ (x : NumberedLink). x.peer) eb ∙ link-peer s c.announcer.link) j) (f j) ++ message_bytes (Graft None c.announcer.round.0))
+        ++ (send_head ((ap (λ (x : NumberedLink). x.peer) ea ∙ link-peer s c.sender) j) (g j) ++ message_bytes Prune))
 
 -- the state by what was found
 module _ (id p round : ℕ) (s : State) where

@@ -97,6 +97,6 @@ module _ (now id : ℕ) (content : List ℕ) (round : ℕ) (h : Head) (xs : List
         arith,
         c,
         ap (λ (y : Sizes). y.queued) e,
-        ap (λ (l : Links). count_by (λ (k : Link). not k.eager && not (k.peer == sender)) (links_from 0 l)) (same_links now s),
+        ap (λ (l : Links). count_by (λ (k : NumberedLink). not k.eager && not (k.peer == sender)) (links_from 0 l)) (same_links now s),
         lazy-more-queued id round sender (taken_state now id content round (settled now s)),
       )

@@ -107,7 +107,7 @@ module _ (id round sender : ℕ) where
   count-notes : (i : ℕ) (l : Links) → count_by (λ k. not k.eager && not (k.peer == sender)) (links_from i l) ≡ length (lazy_notes id round sender l)
   unfolding links_from
   count-notes i [] = refl
-  count-notes i (e ∷ l) = sum_by-cons (λ (k : Link). cond (not k.eager && not (k.peer == sender)) 1 0) (numbered_link i e) (links_from (suc i) l) ∙ on (lazy_target sender e) (count-notes (suc i) l)
+  count-notes i (e ∷ l) = sum_by-cons (λ (k : NumberedLink). cond (not k.eager && not (k.peer == sender)) 1 0) (numbered_link i e) (links_from (suc i) l) ∙ on (lazy_target sender e) (count-notes (suc i) l)
     where
       on : (b : Bool) → count_by (λ k. not k.eager && not (k.peer == sender)) (links_from (suc i) l) ≡ length (lazy_notes id round sender l)
           → cond b 1 0 + count_by (λ k. not k.eager && not (k.peer == sender)) (links_from (suc i) l) ≡ length (map (note_of id round) (if b then e ∷ filter (lazy_target sender) l else filter (lazy_target sender) l))

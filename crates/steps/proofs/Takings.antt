@@ -36,23 +36,23 @@ at_most n c e = record {
 }
 
 -- the two inserts
-module _ (now id : ℕ) (content : List ℕ) (round : ℕ) (s t : State) (e : t ≡ received_also id (now + s.settings.message_id_retention) s) where
-  pub order-then : AtRest s → InOrder t.cache
-  order-then r = subst (λ (z : State). InOrder z.cache) (sym e) (cached-order s r)
-
-  module _ (k : Takes now id content round s) where
-    pub most-received : AtMost s.limits.R (put id tt (now + s.settings.message_id_retention) s.received)
-    unfolding taken_state
-    most-received = at_most s.limits.R _ k.received
-
-    pub most-then : AtMost t.limits.C (put id (message content round) (now + s.settings.message_cache_retention) t.cache)
-    unfolding taken_state
-    most-then = subst (λ (z : State). AtMost z.limits.C (put id (message content round) (now + s.settings.message_cache_retention) z.cache)) (sym e) (at_most s.limits.C _ k.cached)
-
-    pub bytes-then : held (put id (message content round) (now + s.settings.message_cache_retention) t.cache).entries ≤ t.limits.B
-    unfolding taken_state content_held
-    bytes-then = subst (λ (z : State). held (put id (message content round) (now + s.settings.message_cache_retention) z.cache).entries ≤ z.limits.B) (sym e) k.bytes
-
-  pub taken-then : (u : State) → u ≡ cached_also id content round (now + s.settings.message_cache_retention) t → u ≡ taken_state now id content round s
+module _ (now id : ℕ) (content : List ℕ) (round : ℕ) (s : State) where
+  pub most-received : Takes now id content round s → AtMost s.limits.R (put id tt (now + s.settings.message_id_retention) s.received)
   unfolding taken_state
-  taken-then u f = f ∙ ap (cached_also id content round (now + s.settings.message_cache_retention)) e
+  most-received k = at_most s.limits.R _ k.received
+
+  module _ (t : State) (e : t ≡ received_also id (now + s.settings.message_id_retention) s) where
+    pub order-then : AtRest s → InOrder t.cache
+    order-then r = subst (λ (z : State). InOrder z.cache) (sym e) (cached-order s r)
+
+    pub most-then : Takes now id content round s → AtMost t.limits.C (put id (message content round) (now + s.settings.message_cache_retention) t.cache)
+    unfolding taken_state
+    most-then k = subst (λ (z : State). AtMost z.limits.C (put id (message content round) (now + s.settings.message_cache_retention) z.cache)) (sym e) (at_most s.limits.C _ k.cached)
+
+    pub bytes-then : Takes now id content round s → held (put id (message content round) (now + s.settings.message_cache_retention) t.cache).entries ≤ t.limits.B
+    unfolding taken_state content_held
+    bytes-then k = subst (λ (z : State). held (put id (message content round) (now + s.settings.message_cache_retention) z.cache).entries ≤ z.limits.B) (sym e) k.bytes
+
+    pub taken-then : (u : State) → u ≡ cached_also id content round (now + s.settings.message_cache_retention) t → u ≡ taken_state now id content round s
+    unfolding taken_state
+    taken-then u f = f ∙ ap (cached_also id content round (now + s.settings.message_cache_retention)) e

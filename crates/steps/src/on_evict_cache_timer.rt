@@ -10,7 +10,7 @@ ghost use Rattle.decide.specs.StateAfter.{first_state};
 ghost use Rattle.block.specs.Caches.InBlock.{InOrder};
 ghost use Rattle.wire.specs.Encode.Intake.{after};
 ghost use Rattle.steps.specs.Shared.{sizes_value};
-ghost use Rattle.block.specs.Panels.{AtRest};
+ghost use Rattle.block.specs.Panels.{state, Goes, AtRest};
 ghost use Rattle.block.specs.Views.{shown};
 
 use crate::Sizes;

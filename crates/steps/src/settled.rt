@@ -42,11 +42,11 @@ pub fn contains_then<C: PanelCache>(view: &View, instant: Millis, id: Id) -> boo
 
 // When the cached message i expires: the time of the row that its entry names.
 fn cached_expires(view: &View, i: usize) -> Millis
-    requires { AtRest (shown view.now) × (i < length (shown view.now).cache.entries) }
+    requires { i < length (shown view.now).cache.entries }
     ensures { result.0 ≡ (get_or (shown view.now).cache.entries i no_cached).value.expires }
 {
-    let cache = MessageCache::table(view.head);
-    cache.expires(view.block, cache.place(view.block, i))
+    let row = view.cached_row(i);
+    MessageCache::table(view.head).expires(view.block, row)
 }
 
 // The entry of a key that is there then, by its number in the cache as it stands.

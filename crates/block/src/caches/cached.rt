@@ -5,6 +5,8 @@ use crate::head::Head;
 use crate::panel::{Panel, View};
 use crate::time_caches::PanelCache;
 use arrayvec::ArrayVec;
+use postcard::content;
+use postcard::content::Content;
 use postcard::units::{Millis, Round};
 use storage::rows::id::Id;
 use storage::rows::word;
@@ -82,7 +84,7 @@ impl<'a> View<'a> {
     }
 
     // The row that a cached message has.
-    fn cached_row(&self, entry: usize) -> usize
+    pub fn cached_row(&self, entry: usize) -> usize
         requires { entry < length (shown self.now).cache.entries }
         ensures at { result ≡ row_of self.now.head.now self.now.block.now entry }
         ensures within { result < self.now.head.now.live.cached_rows }
@@ -90,7 +92,7 @@ impl<'a> View<'a> {
         MessageCache::table(self.head).place(self.block, entry)
     }
 
-    // The content of a cached message, where it stands in the block.
+    // The content of a cached message: "the part .. of the store that holds it".
     pub fn cached_content(&self, entry: usize) -> &'a [u8]
         requires { entry < length (shown self.now).cache.entries }
         ensures content { result.now ≡ (cached_at (shown self.now) entry).content }
@@ -99,8 +101,8 @@ impl<'a> View<'a> {
         let row = head::cached_rows_at(self.head.limits) + ROW_WIDTH * self.cached_row(entry);
         let start = word::load4(self.block, row + START) as usize;
         let len = word::load4(self.block, row + LEN) as usize;
-        let at = head::contents_at(self.head.limits) + start;
-        &self.block[at..at + len]
+        let start = head::contents_at(self.head.limits) + start;
+        content::content_part(Content::InStore { start, len }, self.block)
     }
 
     // The round at which a cached message is sent on.
@@ -151,7 +153,7 @@ impl<'a> View<'a> {
 }
 
 impl<'a> Panel<'a> {
-    ghost use Rattle.std.specs.Prelude.{◌≡◌, ◌≤◌, []};
+    ghost use Rattle.std.specs.Prelude.{◌≤◌};
     ghost use Rattle.storage.specs.Rows.Ident.{id_of};
     ghost use Rattle.time_cache.specs.TimeCache.{put};
     ghost use Rattle.block.specs.Sound.{held};

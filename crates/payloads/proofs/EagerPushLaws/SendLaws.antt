@@ -69,10 +69,10 @@ module _ (call : Call) (push : Push) (g : Gossip) (s : State) where
     pub sends-skip : (b : Bool) → b ≡ is_target push.sender skip s i → b ≡ false → (h now : Intake) → now ≡ after (sends_to i) h → now ≡ after (sends_to (i + 1)) h
     sends-skip b k t h now a = a ∙ ap (λ (ps : List ℕ). after (sends ps) h) (sym (first_out push.sender skip s i q (sym k ∙ t)))
 
-    module _ (rest' : AtRest s) (b : Bool) (k : b ≡ is_target push.sender skip s i) (t : b ≡ true) (to : Link) (et : to ≡ numbered_link i (link_at s i)) (taken : Bool) (er : taken ≡ leb 1 (get_or call.rooms.now.links i 0)) where
+    module _ (rest' : AtRest s) (b : Bool) (k : b ≡ is_target push.sender skip s i) (t : b ≡ true) (to : NumberedLink) (et : to ≡ numbered_link i (link_at s i)) (taken : Bool) (er : taken ≡ leb 1 (get_or call.rooms.now.links i 0)) where
       same-send : first_send (rooms_of call s) (gossip_value g) (peer_at s i) ≡ Sent to.peer taken (gossip_value g)
       unfolding first_send
-      same-send = λ j. Sent ((link_peer s i q ∙ sym (ap (λ (l : Link). l.peer) et)) j) (((rest-roomed s call rest').first i q ∙ sym er) j) (gossip_value g)
+      same-send = λ j. Sent ((link_peer s i q ∙ sym (ap (λ (l : NumberedLink). l.peer) et)) j) (((rest-roomed s call rest').first i q ∙ sym er) j) (gossip_value g)
 
       abbrev sent : List ℕ
       sent = send_head to.peer taken ++ message_bytes (gossip_value g)

@@ -42,7 +42,7 @@ module _ (g : _) (c : After-takes-taken g) where
   both =
       let v = c.args.view.now in
       bytes-asked c.args.call.now c.args.id v.head.now v.block.now c.requires.rest c.in-Some.entry c.in-Some.ensures c.announcer-first.result c.announcer-first.ensures c.link-peer.result.peer c.takes-taken.result
-      (sym c.is_received_then.ensures ∙ c.if-is_received_then.false) (ap (λ (x : Link). x.peer) c.link-peer.ensures) c.takes-taken.ensures
+      (sym c.is_received_then.ensures ∙ c.if-is_received_then.false) (ap (λ (x : NumberedLink). x.peer) c.link-peer.ensures) c.takes-taken.ensures
 
 pub returns : goal.returns
 returns g c =

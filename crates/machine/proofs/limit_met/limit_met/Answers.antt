@@ -8,7 +8,7 @@ use Rattle.block.specs.Panels.{AtRest}
 use Rattle.block.specs.Sound.{Sound}
 use Rattle.machine.specs.Core.{core_rooms}
 use Rattle.machine.specs.LimitMet.Told.{limit_told}
-use Rattle.machine.proofs.CoreLaws.{Reads, begun-reads, begun-of, header-long}
+use Rattle.machine.proofs.CoreLaws.{Reads, begun-reads, rest-of, header-long}
 use Rattle.machine.proofs.LimitMetLaws.LimitLaws.{begun-limit, core-limit}
 use Rattle.machine.proofs.limit_met.limit_met.Goals as goal
 use Rattle.machine.proofs.limit_met.limit_met.Goals.{In-Ok, After-load_head}
@@ -24,8 +24,7 @@ invariant_of-view c = record { sound = subst (λ (h : Head). Sound h c.args.bloc
 
 rest : (c : After-load_head) → AtRest (state_of c.load_head.result c.args.block.now)
 rest c =
-    let r = reads (goal.at.After-load_head c).In-Ok in
-    subst (λ (h : Head). AtRest (state_of h c.args.block.now)) (sym c.load_head.ensures) (begun-of c.args.block.now r.wholly c.args.asked.instant.0 r.early).rest
+    subst (λ (h : Head). AtRest (state_of h c.args.block.now)) (sym c.load_head.ensures) (rest-of c.args.block.now (reads (goal.at.After-load_head c).In-Ok).wholly)
 
 pub event_limit-requires : goal.event_limit-requires
 event_limit-requires c = (rest (goal.at.event_limit-requires c).After-load_head, c.in-Ok.ensures.shortened)

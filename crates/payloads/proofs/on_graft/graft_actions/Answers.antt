@@ -46,5 +46,5 @@ returns g c =
     let a = send_head c.link-peer.result.peer c.takes-taken.result ++ message_bytes (Gossip (id_of c.in-Some.id) c.in-Some-cached_then.cached.content.now (Swarm c.in-Some-cached_then.cached.round.0)) in
     let b = concat_map action_bytes (announce_action (not c.takes-taken.result) v.head.now.live.announce_dropped_scheduled) in
     let e = sends c.args.call.now c.args.link c.args.wanted c.in-Some.id c.in-Some-cached_then.cached v.head.now v.block.now c.link-peer.result.peer c.takes-taken.result c.cached_then.result
-    c.requires.rest.0 c.requires.rest.1 c.in-Some.is c.in-Some-cached_then.is c.cached_then.ensures (ap (λ (x : Link). x.peer) c.link-peer.ensures) c.takes-taken.ensures in
+    c.requires.rest.0 c.requires.rest.1 c.in-Some.is c.in-Some-cached_then.is c.cached_then.ensures (ap (λ (x : NumberedLink). x.peer) c.link-peer.ensures) c.takes-taken.ensures in
     c.schedule_announce_dropped.ensures ∙ ap (after b) c.encode.ensures ∙ after_append a b h ∙ ap (λ (bs : List ℕ). after bs h) (sym e)

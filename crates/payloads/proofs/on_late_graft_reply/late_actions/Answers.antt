@@ -26,5 +26,5 @@ returns-in-Repeated g c =
 pub returns-in-Faster : goal.returns-in-Faster
 returns-in-Faster g c =
     let s = shown c.args.view.now in
-    c.encode-in-Faster.ensures ∙ ap (λ (bs : List ℕ). after bs (g.S.Sink.intake c.args.out.now)) (sym (bytes-first c.args.call.now c.args.copy s (peer_at s c.in-Faster.first) c.in-Faster.ensures.same c.link.result.peer (ap (λ (x : Link). x.peer) c.link.ensures ∙ link-peer s c.in-Faster.first) c.takes.result
+    c.encode-in-Faster.ensures ∙ ap (λ (bs : List ℕ). after bs (g.S.Sink.intake c.args.out.now)) (sym (bytes-first c.args.call.now c.args.copy s (peer_at s c.in-Faster.first) c.in-Faster.ensures.same c.link.result.peer (ap (λ (x : NumberedLink). x.peer) c.link.ensures ∙ link-peer s c.in-Faster.first) c.takes.result
     (c.takes.ensures ∙ taken-link c.args.call.now s c.requires.rest.0.consistent.core.links_up (peer_at s c.in-Faster.first) c.in-Faster.first (record { below = c.in-Faster.ensures.below; peer = refl }))))

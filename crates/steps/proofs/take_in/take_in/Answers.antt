@@ -23,7 +23,7 @@ unfolding state_of
 insert_received-requires-clause-room c =
     let a = c.args in
     let s = state a.panel.now in
-    most-received a.call.now.instant.0 (id_of a.id) a.content.now a.round.0 s _ c.insert_received.ensures.state c.requires
+    most-received a.call.now.instant.0 (id_of a.id) a.content.now a.round.0 s c.requires
 
 pub insert_cached-requires-clause-order : goal.insert_cached-requires-clause-order
 unfolding state_of

@@ -1,5 +1,5 @@
 -- By what the search found.
-use Rattle.std.proofs.Common.{◌≡◌, sym, ap, ◌∙◌, subst, List, [], ◌∷◌, ℕ, ◌≤◌, length, arith}
+use Rattle.std.proofs.Common.{sym, ap, ◌∙◌, subst, List, [], ◌∷◌, ◌≤◌, length, arith}
 use lib.ListN.{length-map}
 use Rattle.storage.specs.Rows.Ident.{id_of}
 use Rattle.storage.specs.Rows.Sorted.{Here, Between}

@@ -1,5 +1,5 @@
 -- One announcer goes with its row, of several the first.
-use Rattle.std.proofs.Common.{◌≡◌, sym, ap, ◌∙◌, ℕ, length, arith}
+use Rattle.std.proofs.Common.{◌≡◌, sym, ap, ◌∙◌, length, arith}
 use Rattle.protocol.specs.State.{State}
 use Rattle.block.specs.Panels.{state}
 use Rattle.block.specs.MissingSteps.{hops_at}

@@ -1,6 +1,6 @@
 -- The notes of one peer, passed by a cursor in each of two lists, and the notes of all links.
 -- Assumes nothing.
-use Rattle.std.proofs.Common.{◌≡◌, sym, ap, ◌∙◌, Bool, true, false, ◌&&◌, List, [], ◌∷◌, ℕ, ◌+◌, ◌≤◌, ◌<◌, add-one, arith, eqb-true, eq-eqb, leb-true, leb-false, eqb, leb, length, drop, get_or, drop_of_length-le, drop-cons}
+use Rattle.std.proofs.Common.{◌≡◌, sym, ap, ◌∙◌, Bool, true, false, ◌&&◌, List, [], ◌∷◌, ℕ, ◌+◌, ◌≤◌, ◌<◌, add-one, eqb-true, eq-eqb, leb-true, leb-false, eqb, leb, length, drop, get_or, drop_of_length-le, drop-cons}
 use Rattle.storage.specs.Lists.Base.{filter}
 use Rattle.storage.proofs.ListsLaws.MapLaws.{cases, true≢}
 use Rattle.storage.proofs.ListsLaws.ListLaws.{all_append}

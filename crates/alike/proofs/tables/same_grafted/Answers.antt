@@ -1,13 +1,14 @@
 -- `tables::same_grafted`: key and expiry, `first`, `kept`, peers.
-use Rattle.std.proofs.Common.{◌≡◌, ℕ, refl, sym, ap, ◌∙◌, subst, Bool, true, false, ◌&&◌, eqb, Option, Some, None}
+use Rattle.std.proofs.Common.{◌≡◌, ℕ, refl, sym, ◌∙◌, Bool, true, false, ◌&&◌, eqb, Option, Some, None}
 use Rattle.std.specs.Option.{option_eq}
 use Rattle.block.specs.Views.{shown}
 use Rattle.protocol.specs.Alike.{same_map, same_option, same_hop, same_grafts}
 use Rattle.alike.proofs.Lists.{list_grafts}
 use Rattle.alike.specs.Elements.{same_element}
 use Rattle.alike.specs.Rows.{same_entry, same_timed}
-use Rattle.time_cache.specs.declared.cache.TimeBoundCache.{TimeBoundCache}
-use Rattle.alike.proofs.Entries.{key_of, entry-same, Asks, key_at, grafted-asks, grafted-key}
+use Rattle.alike.proofs.BlockReads.{key_of, key-read}
+use Rattle.alike.proofs.Entries.{entry-same, asked, no_grafted, grafted-named}
+use Rattle.block.specs.TimeCaches.{grafted_cache}
 use Rattle.storage.specs.Lists.Map.{Entry}
 use Rattle.time_cache.specs.TimeCache.{Timed}
 use Rattle.protocol.specs.State.{Grafts}
@@ -53,8 +54,8 @@ module _ (d : Joined-same_first) where
   key-told : d.same_key.result ≡ E
   key-told =
       let a = d.args in
-      let x = ap (λ (t : TimeBoundCache). key_at t a.x.now.block.now a.i) d.table.ensures.at ∙ grafted-key a.x.now a.i d.requires.0 in
-      let y = ap (λ (t : TimeBoundCache). key_at t a.y.now.block.now a.i) d.table-2.ensures.at ∙ grafted-key a.y.now a.i d.requires.1 in
+      let x = key-read d.table.result a.x.now.block.now (shown a.x.now).grafted (d.table.ensures.stands a.x.now.block.now a.x.now.sound) a.i no_grafted d.requires.0 in
+      let y = key-read d.table-2.result a.y.now.block.now (shown a.y.now).grafted (d.table-2.ensures.stands a.y.now.block.now a.y.now.sound) a.i no_grafted d.requires.1 in
       d.same_key.ensures ∙ (λ k. same_element (x k) (y k))
 
   two-told : d.if-same_key.value ≡ (E && F)
@@ -86,10 +87,10 @@ module _ (d : Joined-same_first) where
   told = assoc E F K M ∙ sym (entry-same same_grafts p q)
 
 pub same_key-requires-clause-lies : goal.same_key-requires-clause-lies
-same_key-requires-clause-lies c = let a = c.args in subst (λ (t : TimeBoundCache). Asks t a.x.now.block.now a.i) (sym c.table.ensures.at) (grafted-asks a.x.now a.i c.requires.0)
+same_key-requires-clause-lies c = let a = c.args in asked c.table.result (grafted_cache a.x.now.head.now) a.x.now.block.now (shown a.x.now).grafted a.i (c.table.ensures.stands a.x.now.block.now a.x.now.sound) c.table.ensures.at (grafted-named a.x.now) c.requires.0
 
 pub same_key-requires-clause-lies_2 : goal.same_key-requires-clause-lies_2
-same_key-requires-clause-lies_2 c = let a = c.args in subst (λ (t : TimeBoundCache). Asks t a.y.now.block.now a.i) (sym c.table-2.ensures.at) (grafted-asks a.y.now a.i c.requires.1)
+same_key-requires-clause-lies_2 c = let a = c.args in asked c.table-2.result (grafted_cache a.y.now.head.now) a.y.now.block.now (shown a.y.now).grafted a.i (c.table-2.ensures.stands a.y.now.block.now a.y.now.sound) c.table-2.ensures.at (grafted-named a.y.now) c.requires.1
 
 pub returns-then-eq : goal.returns-then-eq
 returns-then-eq c =

@@ -16,7 +16,7 @@ protocol.NoNeighbourPassedOver.NoNeighbourPassedOver protocol.AlikeUnordered.sam
 """
 OUT = """
 storage.Rows.Part.Only storage.Rows.Sorted.Ascending storage.Refs.Once.Numbers postcard.Output.FitsAt wire.Reader.Gives.Decodes
-decide.Settled.settled alike.NoteTable.NextOf block.Goes.Goes block.Sound.Sound whole.States.Calls.Placed protocol.AlikeCalls.Peerwise.Like block.Panels.AtRest machine.Kinds.Meaning.peer_of machine.Core.Begins machine.Core.core_rooms
+decide.Settled.settled alike.NoteTable.NextOf block.Becomes.Becomes block.Sound.Sound whole.States.Calls.Placed protocol.AlikeCalls.Peerwise.Like block.Panels.AtRest machine.Kinds.Meaning.peer_of machine.Core.Begins machine.Core.core_rooms
 machine.Decided.decided machine.Steps.Asked plumtree.Rooms.Found plumtree.Peers.Sender panel.Records.Reading.Whole
 """
 

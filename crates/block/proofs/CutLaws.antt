@@ -9,7 +9,7 @@ use Rattle.block.specs.Layout.{tables, table}
 use Rattle.block.specs.View.{state_of, limits_of, note_of, notes_in, peers_in}
 use Rattle.storage.specs.Refs.Numbers.{pairs, numbered}
 use Rattle.block.specs.Sound.{Sound}
-use Rattle.block.specs.Goes.{Goes}
+use Rattle.block.specs.Becomes.{Becomes}
 use Rattle.block.specs.Heads.{with_dropped_count}
 use Rattle.block.specs.declared.head.Head.{Head}
 use Rattle.block.proofs.Tables.{length-table}
@@ -44,7 +44,7 @@ module _ (h : Head) (xs : List ℕ) (sound : Sound h xs) where
   numbers-long = length-table l 13 xs (lit< tt) sound.fit.long
 
   -- the first k entries
-  pub cut-goes : (k : ℕ) → k ≤ h.live.dropped → Goes (λ s. with_dropped (take k s.dropped) s) h xs (with_dropped_count k h) xs
+  pub cut-goes : (k : ℕ) → k ≤ h.live.dropped → Becomes (λ s. with_dropped (take k s.dropped) s) h xs (with_dropped_count k h) xs
   unfolding state_of notes_in
   cut-goes k q = record {
     state = ap (λ (ns : List Note). with_dropped ns (state_of h xs)) (numbered-take (note_of (peers_in h (tables l xs))) 34 h.live.dropped k (table l 13 xs) (table l 14 xs) q);

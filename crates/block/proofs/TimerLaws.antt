@@ -10,7 +10,7 @@ use Rattle.protocol.specs.State.{State, Limits, with_graft_timers}
 use Rattle.block.specs.Layout.{span, table}
 use Rattle.block.specs.View.{state_of, view_of, limits_of, id_at, timers_in}
 use Rattle.block.specs.Sound.{Laid, Sound}
-use Rattle.block.specs.Goes.{Goes}
+use Rattle.block.specs.Becomes.{Becomes}
 use Rattle.block.specs.Heads.{with_timer_count}
 use Rattle.block.specs.TimerSteps.{timer_also, timer_marked}
 use Rattle.block.specs.declared.head.Head.{Head}
@@ -52,7 +52,7 @@ module _ (h : Head) (xs : List ℕ) (r : Range ℕ) (hr : r ≡ span (limits_of 
 
   pub timers-goes : (f : List ℕ → List ℕ) (m : ℕ) (ys : List ℕ) → Sound h xs → m ≤ l.T → length ys ≡ length (lent_at r xs)
       → listed 32 key_of m ys ≡ f (state_of h xs).timers.graft
-      → Goes (λ (s : State). with_graft_timers (f s.timers.graft) s) h xs (with_timer_count m h) (given_back r xs ys)
+      → Becomes (λ (s : State). with_graft_timers (f s.timers.graft) s) h xs (with_timer_count m h) (given_back r xs ys)
   unfolding state_of timers_in key_of id_at
   timers-goes f m ys sound hm g q =
       let framed = lent-frame l 10 r xs (lit< tt) hr ys sound.fit.long g in

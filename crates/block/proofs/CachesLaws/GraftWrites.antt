@@ -21,7 +21,7 @@ use Rattle.protocol.specs.State.{Limits, State, Grafts, with_grafted}
 use Rattle.block.specs.Layout.{place, table}
 use Rattle.block.specs.View.{state_of, limits_of, half_at, flag_of, only_if, hops_in, round_of, grafts_of, grafted_in}
 use Rattle.block.specs.Sound.{Numbered, Sound}
-use Rattle.block.specs.Goes.{Goes}
+use Rattle.block.specs.Becomes.{Becomes}
 use Rattle.block.specs.declared.head.Head.{Head}
 use Rattle.block.proofs.Tables.{length-table}
 use Rattle.block.specs.TimeCaches.{grafted_cache}
@@ -241,7 +241,7 @@ module _ (h : Head) (xs : List ℕ) (sound : Sound h xs) (order : InOrder (state
       subst (EachOwn (Listed h.live.links)) (sym e)
       (each-put (Listed h.live.links) i (ref r.place (put o bs r.own)) (refs_at c xs) listed old-lists here)
 
-  pub own-goes : Listed h.live.links (put o bs r.own) → (g : Grafts) → grafts_of ps (put o bs r.own) x.rest ≡ g → Goes (λ t. with_grafted (replace (grafted_at t i).key g t.grafted) t) h xs h ys
+  pub own-goes : Listed h.live.links (put o bs r.own) → (g : Grafts) → grafts_of ps (put o bs r.own) x.rest ≡ g → Becomes (λ t. with_grafted (replace (grafted_at t i).key g t.grafted) t) h xs h ys
   unfolding state_of grafted_in
   own-goes listed g e =
       let k : x.key ≡ (grafted_at (state_of h xs) i).key = sym (ap (λ (z : Entry (Timed Grafts)). z.key) entry-same) in
@@ -275,7 +275,7 @@ module _ (h : Head) (xs : List ℕ) (sound : Sound h xs) (order : InOrder (state
   abbrev lim : Limits
   lim = limits_of h.limits
 
-  pub first_goes : (rd : ℕ) → rd < 256 ^ 2 → Goes (first_at i p rd) h xs h (put (a + 2) (first_bytes p rd) xs)
+  pub first_goes : (rd : ℕ) → rd < 256 ^ 2 → Becomes (first_at i p rd) h xs h (put (a + 2) (first_bytes p rd) xs)
   first_goes rd hr =
       let bs : List ℕ = first_bytes p rd in
       let w : 0 + length bs ≤ 117 = omega (arith, length-first p rd) in
@@ -286,9 +286,9 @@ module _ (h : Head) (xs : List ℕ) (sound : Sound h xs) (order : InOrder (state
       let go = own-goes h xs sound order i there 0 bs w (list-kept h xs sound order i there 0 bs w (omega (arith, length-first p rd))) g
       (first-value (peers_of h xs) (r h xs sound order i there 0 bs w).own (x h xs sound order i there 0 bs w).rest (own-long h xs sound order i there 0 bs w) p rd hp hr
       ∙ (λ z. record { first = Some (record { peer = p; round = rd }); kept = (sym same z).kept; peers = (sym same z).peers })) in
-      subst (Goes (first_at i p rd) h xs h) (ap (λ (b : ℕ). put b bs xs) (sym e)) (record { state = go.state; sound = go.sound })
+      subst (Becomes (first_at i p rd) h xs h) (ap (λ (b : ℕ). put b bs xs) (sym e)) (record { state = go.state; sound = go.sound })
 
-  pub kept_goes : Goes (kept_at i p) h xs h (put (a + 13) (kept_bytes p) xs)
+  pub kept_goes : Becomes (kept_at i p) h xs h (put (a + 13) (kept_bytes p) xs)
   kept_goes =
       let bs : List ℕ = kept_bytes p in
       let w : 11 + length bs ≤ 117 = omega (arith, length-kept p) in
@@ -299,12 +299,12 @@ module _ (h : Head) (xs : List ℕ) (sound : Sound h xs) (order : InOrder (state
       let go = own-goes h xs sound order i there 11 bs w (list-kept h xs sound order i there 11 bs w (omega (arith, length-kept p))) g
       (kept-value (peers_of h xs) (r h xs sound order i there 11 bs w).own (x h xs sound order i there 11 bs w).rest (own-long h xs sound order i there 11 bs w) p hp
       ∙ (λ z. record { first = (sym same z).first; kept = Some p; peers = (sym same z).peers })) in
-      subst (Goes (kept_at i p) h xs h) (ap (λ (b : ℕ). put b bs xs) (sym e)) (record { state = go.state; sound = go.sound })
+      subst (Becomes (kept_at i p) h xs h) (ap (λ (b : ℕ). put b bs xs) (sym e)) (record { state = go.state; sound = go.sound })
 
 -- the store of another list of peers
 module _ (h : Head) (xs : List ℕ) (sound : Sound h xs) (order : InOrder (state_of h xs).grafted) (i : ℕ) (there : i < length (state_of h xs).grafted.entries) where
   pub peers-goes : (list : List ℕ) → length list ≡ 97 → Numbered h.live.links list
-      → Goes (λ s. with_grafted (replace (grafted_at s i).key (record { first = (grafts_at s i).first; kept = (grafts_at s i).kept; peers = hops_in (round_of (peers_of h xs)) list }) s.grafted) s) h xs h (put (place (limits_of h.limits) 7 + 119 * i + 22) list xs)
+      → Becomes (λ s. with_grafted (replace (grafted_at s i).key (record { first = (grafts_at s i).first; kept = (grafts_at s i).kept; peers = hops_in (round_of (peers_of h xs)) list }) s.grafted) s) h xs h (put (place (limits_of h.limits) 7 + 119 * i + 22) list xs)
   peers-goes list long numbered =
       let lim : Limits = limits_of h.limits in
       let w : 20 + length list ≤ 117 = omega arith in
@@ -317,4 +317,4 @@ module _ (h : Head) (xs : List ℕ) (sound : Sound h xs) (order : InOrder (state
       let go = own-goes h xs sound order i there 20 list w (subst (Numbered h.live.links) (sym (list_put (peers_of h xs) own rest ol list long)) numbered) g
       (peers-value (peers_of h xs) own rest ol list long ∙ (λ z. record { first = (sym same z).first; kept = (sym same z).kept; peers = hops_in (round_of (peers_of h xs)) list })) in
       let f : State → State = λ s. with_grafted (replace (grafted_at s i).key (record { first = (grafts_at s i).first; kept = (grafts_at s i).kept; peers = hops_in (round_of (peers_of h xs)) list }) s.grafted) s in
-      subst (Goes f h xs h) (ap (λ (b : ℕ). put b list xs) (sym e)) (record { state = go.state; sound = go.sound })
+      subst (Becomes f h xs h) (ap (λ (b : ℕ). put b list xs) (sym e)) (record { state = go.state; sound = go.sound })

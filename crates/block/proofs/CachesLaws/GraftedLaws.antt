@@ -15,7 +15,7 @@ use Rattle.block.specs.Layout.{place, tables, table}
 use Rattle.block.specs.View.{state_of, view_of, limits_of, grafted_in, grafts_of, peers_in}
 use Rattle.block.specs.Fit.{Fit}
 use Rattle.block.specs.Sound.{Numbered, AllNumbered, Laid, Sound}
-use Rattle.block.specs.Goes.{Goes}
+use Rattle.block.specs.Becomes.{Becomes}
 use Rattle.block.specs.Heads.{with_grafted_counts}
 use Rattle.block.specs.declared.head.Head.{Head}
 use Rattle.block.specs.TimeCaches.{cache_from, grafted_cache}
@@ -132,7 +132,7 @@ module _ (h : Head) (xs ys : List ℕ) (sound : Sound h xs) (n' m' k g : ℕ) wh
 
 -- `expire_until`
 pub grafted-expired : (h : Head) (xs ys : List ℕ) (instant : ℕ) (r : Expired) → Sound h xs → length ys ≡ length xs → Expires (grafted_cache h) instant xs r ys
-    → Goes (grafted_left instant) h xs (with_grafted_counts r.cache.entries.len r.cache.expiry.len h) ys
+    → Becomes (grafted_left instant) h xs (with_grafted_counts r.cache.entries.len r.cache.expiry.len h) ys
 unfolding grafted_in state_of
 grafted-expired h xs ys instant r sound e x =
     let l : Limits = limits_of h.limits in

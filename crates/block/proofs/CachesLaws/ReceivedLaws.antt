@@ -13,7 +13,7 @@ use Rattle.block.specs.Layout.{place, tables, table}
 use Rattle.block.specs.View.{state_of, view_of, limits_of, received_in, nothing_of}
 use Rattle.block.specs.Fit.{Fit}
 use Rattle.block.specs.Sound.{Laid, Sound}
-use Rattle.block.specs.Goes.{Goes}
+use Rattle.block.specs.Becomes.{Becomes}
 use Rattle.block.specs.Heads.{with_received_counts}
 use Rattle.block.specs.declared.head.Head.{Head}
 use Rattle.block.specs.TimeCaches.{cache_from, received_cache}
@@ -93,7 +93,7 @@ module _ (h : Head) (xs ys : List ℕ) (sound : Sound h xs) (n' m' k g : ℕ) wh
 
 -- `expire_until`
 pub received-expired : (h : Head) (xs ys : List ℕ) (instant : ℕ) (r : Expired) → Sound h xs → length ys ≡ length xs → Expires (received_cache h) instant xs r ys
-    → Goes (received_left instant) h xs (with_received_counts r.cache.entries.len r.cache.expiry.len h) ys
+    → Becomes (received_left instant) h xs (with_received_counts r.cache.entries.len r.cache.expiry.len h) ys
 unfolding received_in state_of
 received-expired h xs ys instant r sound e x =
     let l : Limits = limits_of h.limits in
@@ -117,7 +117,7 @@ received-expired h xs ys instant r sound e x =
 -- an insert
 pub received-inserted : (h : Head) (xs ys : List ℕ) (id expires : ℕ) (r : Inserted) → Sound h xs → length ys ≡ length xs
     → AtMost (state_of h xs).limits.R (put_in id tt expires (state_of h xs).received) → Inserts (received_cache h) id expires xs r ys
-    → Goes (received_also id expires) h xs (with_received_counts r.cache.entries.len r.cache.expiry.len h) ys
+    → Becomes (received_also id expires) h xs (with_received_counts r.cache.entries.len r.cache.expiry.len h) ys
 unfolding received_in state_of
 received-inserted h xs ys id expires r sound e most x =
     let l : Limits = limits_of h.limits in

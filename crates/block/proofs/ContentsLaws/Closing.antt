@@ -18,7 +18,7 @@ use Rattle.block.specs.Layout.{place, tables, table, end}
 use Rattle.block.specs.View.{state_of, view_of, limits_of, cached_in, cached_of}
 use Rattle.block.specs.Fit.{Fit}
 use Rattle.block.specs.Sound.{Laid, Sound, held}
-use Rattle.block.specs.Goes.{Goes}
+use Rattle.block.specs.Becomes.{Becomes}
 use Rattle.block.specs.Heads.{with_cached_counts}
 use Rattle.block.specs.declared.head.Head.{Head}
 use Rattle.block.proofs.Tables.{frame, length-table}
@@ -113,7 +113,7 @@ module _ (h : Head) (xs : List ℕ) (ahead : Ahead h xs) where
   named-rows : Below (length rs) (places (refs 4 n (table l 4 xs)))
   named-rows = subst (λ (k : ℕ). Below k (places (refs 4 n (table l 4 xs)))) (sym count) ahead.places
 
-  pub close-still : a ≡ 0 → Goes (λ t. t) h xs h xs
+  pub close-still : a ≡ 0 → Becomes (λ t. t) h xs h xs
   close-still e = record {
     state = refl;
     sound = cached-laid h xs xs ahead.fit ahead.others n m u (table l 4 xs) (table l 5 xs) s refl ahead.fit ahead.places
@@ -147,7 +147,7 @@ module _ (h : Head) (xs : List ℕ) (ahead : Ahead h xs) where
     unfolding cached_in
     same = cache-same s (put 0 (part a (u - a) s) s) along moves (refs 4 n (table l 4 xs)) named-rows
 
-    pub close-goes : Goes (λ t. t) h xs (with_cached_counts n m (u - a) h) ys
+    pub close-goes : Becomes (λ t. t) h xs (with_cached_counts n m (u - a) h) ys
     unfolding state_of
     close-goes = record {
       state =
@@ -178,10 +178,10 @@ module _ (h : Head) (xs : List ℕ) (ahead : Ahead h xs) where
     pub close-above : Above 0 r (drop 0 (expiry_rows 48 m (table l 5 ws)))
     close-above = subst (Above 0 r) (sym rows-kept) (chain-above 0 r ahead.chain (omega (arith, er)))
 
-    pub close-shifts : (ys : List ℕ) → length ys ≡ length ws → Shifts h 0 0 r ws ys → Goes (λ t. t) h xs (with_cached_counts n m (u - r) h) ys
+    pub close-shifts : (ys : List ℕ) → length ys ≡ length ws → Shifts h 0 0 r ws ys → Becomes (λ t. t) h xs (with_cached_counts n m (u - r) h) ys
     close-shifts ys ly sh =
         let w : u - a ≡ u - r = omega (arith, er) in
-        subst (λ (k : ℕ). Goes (λ t. t) h xs (with_cached_counts n m k h) ys) w
+        subst (λ (k : ℕ). Becomes (λ t. t) h xs (with_cached_counts n m k h) ys) w
         (close-goes ys (ly ∙ len)
         (sh.tables ∙ ap (λ (t : List (List ℕ)). set t 5 (table l 5 ys)) tables-moved)
         (sh.rows ∙ (λ k. map (shifted_row 0 (er k)) (rows-kept k))))

@@ -23,7 +23,7 @@ use Rattle.block.specs.Layout.{place, tables, table, end}
 use Rattle.block.specs.View.{state_of, limits_of, cached_in, cached_of, content_of, half_at}
 use Rattle.block.specs.Fit.{Fit}
 use Rattle.block.specs.Sound.{Sound, held}
-use Rattle.block.specs.Goes.{Goes}
+use Rattle.block.specs.Becomes.{Becomes}
 use Rattle.block.specs.Heads.{with_cached_counts}
 use Rattle.block.specs.declared.head.Head.{Head}
 use Rattle.block.proofs.Tables.{frame, length-table}
@@ -324,12 +324,12 @@ module _ (h : Head) (xs : List ℕ) (sound : Sound h xs) (id round t : ℕ) (r :
         ∙ inserted-in l 4 4 n 5 48 m xs y3 (lit< tt) wn (lit< tt) wm n' m' wn' wm' (cached_of store) id t (held_at c' i j y3) fresh.cache
         ∙ ap (λ (v : Cached). put_in id v t (cache_in (cached_of store) 4 n (table l 4 xs) 48 m (table l 5 xs))) value-is
 
-    pub empty-goes : held (put_in id (message [] round) t (state_of h xs).cache).entries ≡ held (state_of h xs).cache.entries → (zs : List ℕ) → zs ≡ empty_in new_head i j s round ys → Goes (cached_also id [] round t) h xs new_head zs
+    pub empty-goes : held (put_in id (message [] round) t (state_of h xs).cache).entries ≡ held (state_of h xs).cache.entries → (zs : List ℕ) → zs ≡ empty_in new_head i j s round ys → Becomes (cached_also id [] round t) h xs new_head zs
     unfolding y3 state_of
     empty-goes used zs q =
         let others : Others h (tables l xs) = others-of h (tables l xs) sound.laid in
         let below : Below m' (places (refs 4 n' e3)) = subst (λ (z : List Ref). Below m' (places z)) (refs-in l 4 4 n' 5 48 m' y3 (lit< tt) wn' (lit< tt) wm' ∙ ap (refs 4 n') four) fresh.sound.below in
-        subst (λ (z : List ℕ). Goes (cached_also id [] round t) h xs new_head z) (sym q)
+        subst (λ (z : List ℕ). Becomes (cached_also id [] round t) h xs new_head z) (sym q)
         (record {
           state = cached-state h xs y3 sound.fit others n' m' u e3 x3 store tables-3 ∙ ap (λ (c : Cache Cached). with_cache c (state_of h xs)) all;
           sound = cached-laid h xs y3 sound.fit others n' m' u e3 x3 store tables-3 (fit_at y3 l3) below

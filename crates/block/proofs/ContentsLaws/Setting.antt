@@ -24,7 +24,7 @@ use Rattle.block.specs.Layout.{place, tables, table}
 use Rattle.block.specs.View.{state_of, limits_of, cached_in, cached_of, content_of}
 use Rattle.block.specs.Fit.{Fit}
 use Rattle.block.specs.Sound.{Sound, held}
-use Rattle.block.specs.Goes.{Goes}
+use Rattle.block.specs.Becomes.{Becomes}
 use Rattle.block.specs.Heads.{with_cached_counts}
 use Rattle.block.specs.declared.head.Head.{Head}
 use Rattle.block.proofs.Tables.{frame, length-table}
@@ -254,7 +254,7 @@ module _ (h : Head) (xs content : List ℕ) (id i : ℕ) (sound : Sound h xs) (o
       let u : held (state_of h xs).cache.entries ≡ uc = unfold state_of in sound.laid.used in
       omega (arith, held-refill content (state_of h xs).cache id i order.up hd, room-in, old-at, u)
 
-  pub set-goes : (r : Head) (ys : List ℕ) → Resized h row content xs r ys → Goes (refilled id content) h xs r ys
+  pub set-goes : (r : Head) (ys : List ℕ) → Resized h row content xs r ys → Becomes (refilled id content) h xs r ys
   unfolding state_of cached_in cache_of
   set-goes r ys z =
       let p : ℕ = row in
@@ -280,7 +280,7 @@ module _ (h : Head) (xs content : List ℕ) (id i : ℕ) (sound : Sound h xs) (o
       ∙ refill-set store (store_then store content rows uc p chained hp wide room us sm) rows (rows_then store content rows uc p chained hp wide room us sm) es i p content low names up below ex kept new id here in
       let used : held (cached_in t nc (table lim 4 xs) mc x).entries ≡ e =
       omega (arith, ap (λ (c : Cache Cached). held c.entries) all, held-refill content (state_of h xs).cache id i order.up hd, old-at, ends, sound.laid.used) in
-      subst (λ (g : Head). Goes (refilled id content) h xs g ys) (sym z.head)
+      subst (λ (g : Head). Becomes (refilled id content) h xs g ys) (sym z.head)
       (record {
         state =
             cached-state h xs ys sound.fit others nc mc e (table lim 4 xs) x t framed
@@ -294,7 +294,7 @@ module _ (h : Head) (xs content : List ℕ) (id i : ℕ) (sound : Sound h xs) (o
       })
 
 -- a message that is not cached
-pub refill-none : (h : Head) (xs content : List ℕ) (id i : ℕ) → Sound h xs → Between (keys (state_of h xs).cache.entries) id i → Goes (refilled id content) h xs h xs
+pub refill-none : (h : Head) (xs content : List ℕ) (id i : ℕ) → Sound h xs → Between (keys (state_of h xs).cache.entries) id i → Becomes (refilled id content) h xs h xs
 unfolding get value_of refill_with
 refill-none h xs content id i sound b = record {
   state = sym (ap (λ (o : Option (Timed Cached)). with_cache (refill_with id content (value_of o) (state_of h xs).cache) (state_of h xs)) (lookup-between id i (state_of h xs).cache.entries b));

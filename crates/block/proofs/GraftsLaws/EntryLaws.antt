@@ -28,7 +28,7 @@ use Rattle.block.specs.Layout.{place, table}
 use Rattle.block.specs.View.{state_of, limits_of, byte_at, hops_in, round_of, grafts_of, grafted_in}
 use Rattle.storage.specs.Refs.Numbers.{pairs, numbered}
 use Rattle.block.specs.Sound.{Sound}
-use Rattle.block.specs.Goes.{Goes}
+use Rattle.block.specs.Becomes.{Becomes}
 use Rattle.block.specs.Heads.{with_grafted_counts}
 use Rattle.block.specs.HopSteps.{pushed_hop}
 use Rattle.block.specs.LinkSteps.{peer_at}
@@ -234,7 +234,7 @@ module _ (h : Head) (xs ys : List ℕ) (id expires : ℕ) (t : Inserted) (sound 
   abbrev pub new : Head
   new = with_grafted_counts n' m' h
 
-  pub entered-goes : Goes (entered_state id expires) h xs new zs
+  pub entered-goes : Becomes (entered_state id expires) h xs new zs
   entered-goes = record {
     state = grafted-state h xs zs sound n' m' (119 * (l.G + 1)) (40 * (2 * l.G + 1)) (omega arith) (omega arith) zs-long only ∙ ap (λ (k : Cache Grafts). with_grafted k (state_of h xs)) all;
     sound = grafted-laid h xs zs sound n' m' (119 * (l.G + 1)) (40 * (2 * l.G + 1)) (omega arith) (omega arith) zs-long only hn hm (own-sound c ys s e v.entry lies 0 zeros wide) lists;
@@ -301,7 +301,7 @@ module _ (h k : Head) (xs ys : List ℕ) (id expires link rd en : ℕ) (sound : 
   unfolding round_of state_of
   peer = λ z. entry (get_or (keys (same z).links) link 0) (le_nat-le_bytes 2 rd hr z)
 
-  pub first-goes : Goes (λ s. with_grafted (put_in id (record { first = no_grafts.first; kept = no_grafts.kept; peers = entry (peer_at s link) rd ∷ [] }) expires s.grafted) s) h xs k (put spot (pushed_hop link rd list) ys)
+  pub first-goes : Becomes (λ s. with_grafted (put_in id (record { first = no_grafts.first; kept = no_grafts.kept; peers = entry (peer_at s link) rd ∷ [] }) expires s.grafted) s) h xs k (put spot (pushed_hop link rd list) ys)
   first-goes =
       let long : length list ≡ 97 = list-long k ys sound en v.below in
       let few : byte_at 0 list < 32 = omega (arith, count) in

@@ -15,7 +15,7 @@ use Rattle.protocol.specs.Control.{lower, with_graft}
 use Rattle.block.specs.Layout.{place}
 use Rattle.block.specs.View.{state_of, limits_of, byte_at, peer_of, round_of, hops_in}
 use Rattle.block.specs.Sound.{Numbered, Sound}
-use Rattle.block.specs.Goes.{Goes}
+use Rattle.block.specs.Becomes.{Becomes}
 use Rattle.block.specs.LinkSteps.{peer_at}
 use Rattle.block.specs.MissingSteps.{hop}
 use Rattle.block.specs.declared.head.Head.{Head}
@@ -80,7 +80,7 @@ module _ (h : Head) (xs : List ℕ) (sound : Sound h xs) (g : Grafting (state_of
   fresh = λ z. entry p (le_nat-le_bytes 2 rd hr z)
 
   -- a peer more
-  pub insert-goes : (j : ℕ) → Between (keys peers) p j → Goes (λ s. peers_to i (peers_with i (peer_at s link) rd s) s) h xs h (put at (inserted_hop j link rd list) xs)
+  pub insert-goes : (j : ℕ) → Between (keys peers) p j → Becomes (λ s. peers_to i (peers_with i (peer_at s link) rd s) s) h xs h (put at (inserted_hop j link rd list) xs)
   unfolding lower
   insert-goes j b =
       let hj : j ≤ byte_at 0 list = omega (arith, b.within, length-map peers (λ (e : Entry ℕ). e.key), many) in
@@ -105,7 +105,7 @@ module _ (h : Head) (xs : List ℕ) (sound : Sound h xs) (g : Grafting (state_of
     low = ap (λ (o : Option ℕ). insert p (lower o rd) peers) (lookup-here p j (entry 0 0) peers (peers-up st g i q) here)
 
     -- a lower round
-    pub lower-goes : (k : ℕ) → (get_or peers j (entry 0 0)).value ≡ k → rd < k → Goes (λ s. peers_to i (peers_with i (peer_at s link) rd s) s) h xs h (put at (round_put j rd list) xs)
+    pub lower-goes : (k : ℕ) → (get_or peers j (entry 0 0)).value ≡ k → rd < k → Becomes (λ s. peers_to i (peers_with i (peer_at s link) rd s) s) h xs h (put at (round_put j rd list) xs)
     unfolding round_of known
     lower-goes k e lt =
         let jk : j < byte_at 0 list = omega (arith, there, many) in
@@ -122,7 +122,7 @@ module _ (h : Head) (xs : List ℕ) (sound : Sound h xs) (g : Grafting (state_of
         record { state = go.state ∙ ap (λ (m : Map ℕ). peers_to i m st) value; sound = go.sound }
 
     -- the known round
-    pub same-goes : (k : ℕ) → (get_or peers j (entry 0 0)).value ≡ k → k ≤ rd → Goes (λ s. peers_to i (peers_with i (peer_at s link) rd s) s) h xs h xs
+    pub same-goes : (k : ℕ) → (get_or peers j (entry 0 0)).value ≡ k → k ≤ rd → Becomes (λ s. peers_to i (peers_with i (peer_at s link) rd s) s) h xs h xs
     unfolding replace known
     same-goes k e le =
         let m0 : min known rd ≡ (get_or peers j (entry 0 0)).value = omega (arith, e, le) in

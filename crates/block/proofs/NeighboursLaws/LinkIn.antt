@@ -12,7 +12,7 @@ use Rattle.protocol.specs.State.{State, Limits, with_links}
 use Rattle.block.specs.Layout.{span, tables}
 use Rattle.block.specs.View.{limits_of, view_with, view_of, state_of, link_of, links_in}
 use Rattle.block.specs.Sound.{Laid}
-use Rattle.block.specs.Goes.{Goes}
+use Rattle.block.specs.Becomes.{Becomes}
 use Rattle.block.specs.LinkSteps.{linked}
 use Rattle.block.specs.Heads.{with_link_count}
 use Rattle.block.specs.declared.head.Head.{Head}
@@ -35,7 +35,7 @@ module _ (h : Head) (xs : List ℕ) (i p : ℕ) (m : Mark) (b : Between (keys (s
     unfolding links_in
     links-with = s ∙ ap (inserted i (entry p m)) (ap (listed 16 link_of n) (lent-table l 1 r ys (lit< tt) hr) ∙ ap (λ (t : State). t.links) (w.same p))
 
-    pub link-in : Goes (linked (insert p m)) h xs (with_link_count (n + 1) h) (given_back r ys zs)
+    pub link-in : Becomes (linked (insert p m)) h xs (with_link_count (n + 1) h) (given_back r ys zs)
     unfolding state_of
     link-in =
         let h1 : Head = with_link_count (n + 1) h in

@@ -13,7 +13,7 @@ use Rattle.protocol.specs.Neighbours.{forget_peer}
 use Rattle.block.specs.Layout.{span, tables}
 use Rattle.block.specs.View.{limits_of, view_with, view_of, state_of, link_of, links_in}
 use Rattle.block.specs.Sound.{Laid}
-use Rattle.block.specs.Goes.{Goes}
+use Rattle.block.specs.Becomes.{Becomes}
 use Rattle.block.specs.LinkSteps.{LinksAscend, peer_at}
 use Rattle.block.specs.Heads.{with_link_count}
 use Rattle.block.specs.declared.head.Head.{Head}
@@ -50,7 +50,7 @@ module _ (h : Head) (xs : List ℕ) (asc : LinksAscend h xs) (i : ℕ) (hi : i <
         ∙ map-append (λ (e : Entry Mark). e.key) (take i ls) (drop (suc i) ls)
         ∙ (λ k. map-take (λ (e : Entry Mark). e.key) i ls k ++ map-drop (λ (e : Entry Mark). e.key) (suc i) ls k)
 
-    pub link-out : Goes (forget_peer p) h xs (with_link_count (n - 1) low) (given_back r ys zs)
+    pub link-out : Becomes (forget_peer p) h xs (with_link_count (n - 1) low) (given_back r ys zs)
     unfolding state_of forget_peer link_down
     link-out =
         let h1 : Head = with_link_count (n - 1) low in

@@ -9,7 +9,7 @@ ghost use Rattle.block.specs.Layout.{table};
 ghost use Rattle.block.specs.View.{state_of, limits_of};
 ghost use Rattle.block.specs.Fit.{Fit};
 ghost use Rattle.block.specs.Sound.{Sound, held};
-ghost use Rattle.block.specs.Goes.{Goes};
+ghost use Rattle.block.specs.Becomes.{Becomes};
 ghost use Rattle.block.specs.Caches.InBlock.{InOrder, AtMost};
 ghost use Rattle.block.specs.Contents.Starts.{len_of, first_start, shifted_row, Above};
 ghost use Rattle.block.specs.Contents.CacheSteps.{cached_left, cached_also, message, cached_rows, empty_in, Ahead, Shifts, Resized};
@@ -63,7 +63,7 @@ fn shift_rows(head: Head, block: &mut [u8], j: usize, up: usize, down: usize)
 // are at the front.
 fn close_contents(mut head: Head, block: &mut [u8]) -> Head
     requires { Ahead head block.old }
-    ensures { Goes (λ s. s) head block.old result block.new }
+    ensures { Becomes (λ s. s) head block.old result block.new }
 {
     let gap = start_of(head, block, 0);
     if gap == 0 {
@@ -80,7 +80,7 @@ fn close_contents(mut head: Head, block: &mut [u8]) -> Head
 // `expire_until` of the message cache: the contents of the rows that go are the first of the contents.
 pub fn expire_contents(mut head: Head, block: &mut [u8], instant: Millis) -> Head
     requires { Sound head block.old × InOrder (state_of head block.old).cache }
-    ensures { Goes (cached_left instant.0) head block.old result block.new }
+    ensures { Becomes (cached_left instant.0) head block.old result block.new }
 {
     let cache = MessageCache::table(&head);
     let expired = cache.expire_until(block, instant, &mut []);
@@ -146,7 +146,7 @@ pub fn insert_empty(mut head: Head, block: &mut [u8], id: Id, round: Round, expi
     requires sound { Sound head block.old × InOrder (state_of head block.old).cache }
     requires room { AtMost (state_of head block.old).limits.C (put_in (id_of id) (message [] round.0) expires.0 (state_of head block.old).cache) }
     requires empty { held (put_in (id_of id) (message [] round.0) expires.0 (state_of head block.old).cache).entries ≡ held (state_of head block.old).cache.entries }
-    ensures { Goes (cached_also (id_of id) [] round.0 expires.0) head block.old result block.new }
+    ensures { Becomes (cached_also (id_of id) [] round.0 expires.0) head block.old result block.new }
 {
     let cache = MessageCache::table(&head);
     let inserted = cache.insert(block, id, expires);

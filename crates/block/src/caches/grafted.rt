@@ -5,7 +5,7 @@ ghost use Rattle.storage.specs.Rows.Part.{put};
 ghost use Rattle.time_cache.specs.TimeCache.{put as put_in};
 ghost use Rattle.block.specs.View.{state_of};
 ghost use Rattle.block.specs.Sound.{Sound};
-ghost use Rattle.block.specs.Goes.{Goes as GoesInBlock};
+ghost use Rattle.block.specs.Becomes.{Becomes};
 ghost use Rattle.block.specs.Heads.{with_grafted_counts};
 ghost use Rattle.block.specs.Caches.InBlock.{InOrder, AtMost};
 ghost use Rattle.block.specs.Caches.GraftSteps.{first_bytes, kept_bytes, no_grafts, entered_state, EnteredAt};
@@ -99,7 +99,7 @@ fn store_kept(block: &mut [u8], at: usize, peer: u64)
 fn insert_entry(head: &Head, block: &mut [u8], id: Id, expires: Millis) -> Inserted
     requires order { Sound head.now block.old × InOrder (state_of head.now block.old).grafted }
     requires room { AtMost (state_of head.now block.old).limits.G (put_in (id_of id) no_grafts expires.0 (state_of head.now block.old).grafted) }
-    ensures goes { GoesInBlock (entered_state (id_of id) expires.0) head.now block.old (with_grafted_counts result.cache.entries.len result.cache.expiry.len head.now) block.new }
+    ensures goes { Becomes (entered_state (id_of id) expires.0) head.now block.old (with_grafted_counts result.cache.entries.len result.cache.expiry.len head.now) block.new }
     ensures entry { EnteredAt (id_of id) (state_of (with_grafted_counts result.cache.entries.len result.cache.expiry.len head.now) block.new) result.entry }
 {
     let cache = GraftedMessages::table(head);

@@ -7,7 +7,7 @@ use Rattle.time_cache.specs.Tables.{FitsOneMore, Sound}
 use Rattle.time_cache.specs.Steps.{Inserts}
 use Rattle.time_cache.specs.declared.cache.TimeBoundCache.{TimeBoundCache}
 use Rattle.block.specs.View.{state_of}
-use Rattle.block.specs.Goes.{Goes}
+use Rattle.block.specs.Becomes.{Becomes}
 use Rattle.block.specs.Heads.{with_grafted_counts}
 use Rattle.block.specs.TimeCaches.{grafted_cache}
 use Rattle.block.specs.Caches.GraftSteps.{entered_state, EnteredAt}
@@ -32,6 +32,6 @@ returns c =
     let same : zs a.head.now a.block.now r.new.block (id_of a.id) a.expires.0 r.result m.order.0 r.auto.block m.room v ≡ c.store_le.new.bytes = sym (c.store_le.ensures ∙ ap (λ (n : ℕ). put n (le_bytes 21 0) r.new.block) at) in
     let h = with_grafted_counts r.result.cache.entries.len r.result.cache.expiry.len a.head.now in
     record {
-      goes = subst (Goes (entered_state (id_of a.id) a.expires.0) a.head.now a.block.now h) same (entered-goes a.head.now a.block.now r.new.block (id_of a.id) a.expires.0 r.result m.order.0 r.auto.block m.room v);
+      goes = subst (Becomes (entered_state (id_of a.id) a.expires.0) a.head.now a.block.now h) same (entered-goes a.head.now a.block.now r.new.block (id_of a.id) a.expires.0 r.result m.order.0 r.auto.block m.room v);
       entry = subst (λ (bs : List ℕ). EnteredAt (id_of a.id) (state_of h bs) r.result.entry) same (entered a.head.now a.block.now r.new.block (id_of a.id) a.expires.0 r.result m.order.0 r.auto.block m.room v);
     }

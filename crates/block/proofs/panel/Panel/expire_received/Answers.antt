@@ -3,7 +3,7 @@ use Rattle.std.proofs.Common.{refl, sym, subst}
 use Rattle.time_cache.specs.Tables.{Lies, Sound}
 use Rattle.time_cache.specs.Steps.{Expires}
 use Rattle.time_cache.specs.declared.cache.TimeBoundCache.{TimeBoundCache}
-use Rattle.block.specs.Goes.{Goes}
+use Rattle.block.specs.Becomes.{Becomes}
 use Rattle.block.specs.Heads.{with_received_counts}
 use Rattle.block.specs.Caches.InBlock.{received_left}
 use Rattle.block.proofs.CachesLaws.ReceivedLaws.{received-lies, received-sound, received-expired}
@@ -17,7 +17,7 @@ expire_until-expired-requires-clause-lies c =
     (received-lies p.head p.block.now p.sound.fit, received-sound p.head p.block.now p.sound c.requires)
 
 goes : (c : After-expire_until-expired) → let p = c.args.self.now in let r = c.expire_until-expired.result in
-    Goes (received_left c.args.instant.0) p.head p.block.now (with_received_counts r.cache.entries.len r.cache.expiry.len p.head) c.expire_until-expired.new.block
+    Becomes (received_left c.args.instant.0) p.head p.block.now (with_received_counts r.cache.entries.len r.cache.expiry.len p.head) c.expire_until-expired.new.block
 goes c =
     let p = c.args.self.now in
     let r = c.expire_until-expired in

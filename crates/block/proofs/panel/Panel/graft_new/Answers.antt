@@ -7,7 +7,7 @@ use Rattle.time_cache.specs.TimeCache.{put as put_in}
 use Rattle.protocol.specs.State.{with_grafted}
 use Rattle.block.specs.Layout.{place}
 use Rattle.block.specs.View.{limits_of}
-use Rattle.block.specs.Goes.{Goes}
+use Rattle.block.specs.Becomes.{Becomes}
 use Rattle.block.specs.HopSteps.{pushed_hop}
 use Rattle.block.specs.LinkSteps.{peer_at}
 use Rattle.block.specs.Caches.GraftSteps.{no_grafts}
@@ -28,7 +28,7 @@ push_hop-requires c =
     (omega (arith, none), omega (arith, low, q.sound.fit.within.links, q.sound.fit.ceilings.N), omega (arith, c.graft_at-at.ensures.within, ap (λ (bs : List ℕ). length bs) c.view.ensures.block))
 
 goes : (c : After-push_hop) → let p = c.args.self.now in
-    Goes (λ s. with_grafted (put_in (id_of c.args.id) (record { first = no_grafts.first; kept = no_grafts.kept; peers = entry (peer_at s c.args.hop.link) c.args.hop.round.0 ∷ [] }) c.args.expires.0 s.grafted) s)
+    Becomes (λ s. with_grafted (put_in (id_of c.args.id) (record { first = no_grafts.first; kept = no_grafts.kept; peers = entry (peer_at s c.args.hop.link) c.args.hop.round.0 ∷ [] }) c.args.expires.0 s.grafted) s)
     p.head p.block.now c.enter_graft-i.new.self.head c.push_hop.new.block
 goes c =
     let a = c.args in
@@ -36,7 +36,7 @@ goes c =
     let q = c.enter_graft-i.new.self in
     let r = c.enter_graft-i.ensures in
     let e = ap (λ (n : ℕ). n + 22) (c.graft_at-at.ensures.at ∙ ap (λ (h : Head). place (limits_of h.limits) 7 + 119 * c.enter_graft-i.result) c.view.ensures.head) in
-    subst (Goes (λ s. with_grafted (put_in (id_of a.id) (record { first = no_grafts.first; kept = no_grafts.kept; peers = entry (peer_at s a.hop.link) a.hop.round.0 ∷ [] }) a.expires.0 s.grafted) s) p.head p.block.now q.head)
+    subst (Becomes (λ s. with_grafted (put_in (id_of a.id) (record { first = no_grafts.first; kept = no_grafts.kept; peers = entry (peer_at s a.hop.link) a.hop.round.0 ∷ [] }) a.expires.0 s.grafted) s) p.head p.block.now q.head)
     (sym (c.push_hop.ensures ∙ (λ k. put (e k) (pushed_hop a.hop.link a.hop.round.0 (part (e k) 97 q.block.now)) q.block.now)))
     (first-goes p.head q.head p.block.now q.block.now (id_of a.id) a.expires.0 a.hop.link a.hop.round.0 c.enter_graft-i.result q.sound c.requires.order r.goes.state r.entry c.requires.link (omega (arith, c.well_formed)))
 

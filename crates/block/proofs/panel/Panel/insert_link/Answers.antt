@@ -2,7 +2,7 @@
 use Rattle.std.proofs.Common.{refl, ◌+◌, arith, lit<}
 use Rattle.storage.specs.Lists.Map.{insert}
 use Rattle.block.specs.View.{limits_of}
-use Rattle.block.specs.Goes.{Goes}
+use Rattle.block.specs.Becomes.{Becomes}
 use Rattle.block.specs.Heads.{with_link_count}
 use Rattle.block.specs.LinkSteps.{linked, mark_value}
 use Rattle.block.proofs.Lent.{given_back, lent-room}
@@ -21,7 +21,7 @@ insert-requires c =
     (omega (arith, c.requires.place.within, count-peers p.head p.block.now), omega (arith, link-room p.head p.block.now c.requires.room, long))
 
 goes : (c : After-insert) → let p = c.args.self.now in
-    Goes (linked (insert c.args.peer (mark_value c.args.mark))) p.head p.block.now (with_link_count (p.head.live.links + 1) p.head) (given_back c.rows.result c.raise_links.new.block c.insert.new.bytes)
+    Becomes (linked (insert c.args.peer (mark_value c.args.mark))) p.head p.block.now (with_link_count (p.head.live.links + 1) p.head) (given_back c.rows.result c.raise_links.new.block c.insert.new.bytes)
 goes c =
     let p = c.args.self.now in
     link-in p.head p.block.now c.args.number c.args.peer (mark_value c.args.mark) c.requires.place (link-room p.head p.block.now c.requires.room)

@@ -1,7 +1,7 @@
 -- The row more is a missing message more.
 use Rattle.std.proofs.Common.{rules, arith, ◌+◌, refl}
 use Rattle.storage.specs.Rows.Ident.{id_of}
-use Rattle.block.specs.Goes.{Goes}
+use Rattle.block.specs.Becomes.{Becomes}
 use Rattle.block.specs.Heads.{with_missing_count}
 use Rattle.block.specs.MissingSteps.{miss_also}
 use Rattle.block.proofs.Lent.{given_back}
@@ -15,7 +15,7 @@ insert-requires c =
     (omega (arith, c.requires.place.within, count-missed p.head p.block.now), search rules)
 
 goes : (c : After-insert) → let p = c.args.self.now in
-    Goes (miss_also (id_of c.args.id)) p.head p.block.now (with_missing_count (p.head.live.missing + 1) p.head) (given_back c.rows.result p.block.now c.insert.new.bytes)
+    Becomes (miss_also (id_of c.args.id)) p.head p.block.now (with_missing_count (p.head.live.missing + 1) p.head) (given_back c.rows.result p.block.now c.insert.new.bytes)
 goes c =
     let p = c.args.self.now in
     missing-in p.head p.block.now c.rows.result c.rows.ensures c.args.i (id_of c.args.id) c.none-announcers.result.0 c.insert.new.bytes p.sound c.requires.room c.insert.auto.bytes

@@ -4,7 +4,7 @@ use Rattle.storage.specs.Rows.Ident.{id_of}
 use Rattle.time_cache.specs.Tables.{FitsOneMore, Sound}
 use Rattle.time_cache.specs.Steps.{Inserts}
 use Rattle.time_cache.specs.declared.cache.TimeBoundCache.{TimeBoundCache}
-use Rattle.block.specs.Goes.{Goes}
+use Rattle.block.specs.Becomes.{Becomes}
 use Rattle.block.specs.Heads.{with_received_counts}
 use Rattle.block.specs.Caches.InBlock.{received_also}
 use Rattle.block.proofs.CachesLaws.ReceivedLaws.{received-room, received-sound, received-inserted}
@@ -18,7 +18,7 @@ insert-inserted-requires c =
     (received-room p.head p.block.now p.sound.fit, received-sound p.head p.block.now p.sound c.requires.order)
 
 goes : (c : After-insert-inserted) → let p = c.args.self.now in let r = c.insert-inserted.result in
-    Goes (received_also (id_of c.args.id) c.args.expires.0) p.head p.block.now (with_received_counts r.cache.entries.len r.cache.expiry.len p.head) c.insert-inserted.new.block
+    Becomes (received_also (id_of c.args.id) c.args.expires.0) p.head p.block.now (with_received_counts r.cache.entries.len r.cache.expiry.len p.head) c.insert-inserted.new.block
 goes c =
     let p = c.args.self.now in
     let r = c.insert-inserted in

@@ -6,7 +6,7 @@ use Rattle.storage.specs.Rows.Part.{part, put}
 use Rattle.protocol.specs.State.{State}
 use Rattle.block.specs.Layout.{place}
 use Rattle.block.specs.View.{limits_of}
-use Rattle.block.specs.Goes.{Goes}
+use Rattle.block.specs.Becomes.{Becomes}
 use Rattle.block.specs.HopSteps.{round_put}
 use Rattle.block.specs.LinkSteps.{peer_at}
 use Rattle.block.specs.Caches.GraftSteps.{grafts_at, peers_to, peers_with}
@@ -47,13 +47,13 @@ set_round-requires c =
     (omega (arith, there (goal.at.set_round-requires c).Start, many, graft-few p.head p.block.now p.sound a.i c.requires.there.0), omega (arith, c.graft_at-at.ensures.within, ap (λ (bs : List ℕ). length bs) c.view-2.ensures.block))
 
 goes : (c : After-set_round) → let p = c.args.self.now in
-    Goes (λ s. peers_to c.args.i (peers_with c.args.i (peer_at s c.args.hop.link) c.args.hop.round.0 s) s) p.head p.block.now p.head c.set_round.new.block
+    Becomes (λ s. peers_to c.args.i (peers_with c.args.i (peer_at s c.args.hop.link) c.args.hop.round.0 s) s) p.head p.block.now p.head c.set_round.new.block
 goes c =
     let a = c.args in
     let p = a.self.now in
     let xs = p.block.now in
     let e = ap (λ (n : ℕ). n + 22) (c.graft_at-at.ensures.at ∙ ap (λ (h : Head). place (limits_of h.limits) 7 + 119 * a.i) c.view-2.ensures.head) in
-    subst (Goes (λ s. peers_to a.i (peers_with a.i (peer_at s a.hop.link) a.hop.round.0 s) s) p.head xs p.head)
+    subst (Becomes (λ s. peers_to a.i (peers_with a.i (peer_at s a.hop.link) a.hop.round.0 s) s) p.head xs p.head)
     (sym (c.set_round.ensures ∙ (λ k. put (e k) (round_put a.j a.hop.round.0 (part (e k) 97 xs)) xs)))
     (lower-goes p.head xs p.sound c.requires.grafting a.i c.requires.there.0 a.hop.link a.hop.round.0 c.requires.there.1 (omega (arith, c.well_formed)) a.j c.requires.place c.graft.result.round.0 (known (goal.at.After-set_round c).After-graft) c.if-graft-hop.false)
 

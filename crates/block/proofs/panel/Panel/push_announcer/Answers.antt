@@ -1,7 +1,7 @@
 -- The put is an announcer more.
 use Rattle.std.proofs.Common.{sym, ap, ◌∙◌, subst, List, ℕ, get_or, arith, refl}
 use Rattle.storage.specs.Rows.Part.{part, put}
-use Rattle.block.specs.Goes.{Goes}
+use Rattle.block.specs.Becomes.{Becomes}
 use Rattle.block.specs.HopSteps.{pushed_hop}
 use Rattle.block.specs.MissingSteps.{announced_at}
 use Rattle.block.proofs.LinkLaws.{count-links}
@@ -24,13 +24,13 @@ push_hop-requires c =
     )
 
 goes : (c : After-push_hop) → let p = c.args.self.now in
-    Goes (announced_at c.args.missing c.args.by.link c.args.by.round.0) p.head p.block.now p.head c.push_hop.new.block
+    Becomes (announced_at c.args.missing c.args.by.link c.args.by.round.0) p.head p.block.now p.head c.push_hop.new.block
 goes c =
     let p = c.args.self.now in
     let i = c.args.missing in
     let by = c.args.by in
     let e = c.announcers_place-at.ensures in
-    subst (λ (ys : List ℕ). Goes (announced_at i by.link by.round.0) p.head p.block.now p.head ys)
+    subst (λ (ys : List ℕ). Becomes (announced_at i by.link by.round.0) p.head p.block.now p.head ys)
     (sym (c.push_hop.ensures ∙ (λ k. put (e k) (pushed_hop by.link by.round.0 (part (e k) 97 p.block.now)) p.block.now)))
     (push_goes p.head p.block.now p.sound i (missing-below p.head p.block.now i c.requires.there.0) by.link by.round.0 c.requires.there.1 (omega (arith, c.well_formed)) c.requires.room c.requires.up)
 

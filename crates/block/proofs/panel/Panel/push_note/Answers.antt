@@ -1,7 +1,7 @@
 -- Number and row are a note more.
 use Rattle.std.proofs.Common.{◌≡◌, subst, ap, ℕ, ◌+◌, arith, length-set, refl, set}
 use Rattle.storage.specs.Rows.Ident.{id_of}
-use Rattle.block.specs.Goes.{Goes}
+use Rattle.block.specs.Becomes.{Becomes}
 use Rattle.block.specs.NoteSteps.{note_also, with_note_count}
 use Rattle.block.specs.declared.note.NoteTable.{NoteTable}
 use Rattle.block.specs.declared.note.NoteTable.TheVariants.{Queue, Record}
@@ -19,12 +19,12 @@ slice_bounds-push-end c = let p = c.args.self.now in omega (arith, length-set {A
 
 -- for the table as the match has it
 goes : (c : After-push) (of : NoteTable) → c.args.of ≡ of → let p = c.args.self.now in
-    Goes (note_also c.args.of c.args.note.link (id_of c.args.note.id) c.args.note.round.0) p.head p.block.now (with_note_count of (c.count-n.result + 1) p.head)
+    Becomes (note_also c.args.of c.args.note.link (id_of c.args.note.id) c.args.note.round.0) p.head p.block.now (with_note_count of (c.count-n.result + 1) p.head)
     (given_back c.rows-rows.result (set p.block.now (c.numbers_at.result + c.count-n.result) c.args.note.link) c.push.new.bytes)
 goes c of e =
     let p = c.args.self.now in
     let n = c.count-n.result in
-    subst (λ (t : NoteTable). Goes (note_also c.args.of c.args.note.link (id_of c.args.note.id) c.args.note.round.0) p.head p.block.now (with_note_count t (n + 1) p.head) (given_back c.rows-rows.result (set p.block.now (c.numbers_at.result + n) c.args.note.link) c.push.new.bytes)) e
+    subst (λ (t : NoteTable). Becomes (note_also c.args.of c.args.note.link (id_of c.args.note.id) c.args.note.round.0) p.head p.block.now (with_note_count t (n + 1) p.head) (given_back c.rows-rows.result (set p.block.now (c.numbers_at.result + n) c.args.note.link) c.push.new.bytes)) e
     (note-more p.head p.block.now p.sound c.args.of n c.args.note.link (id_of c.args.note.id) c.args.note.round.0 _ c.rows-rows.result c.push.new.bytes c.requires.link
     (ap (λ (a : ℕ). a + n) c.numbers_at.ensures.place) c.rows-rows.ensures.span c.push.auto.bytes c.count-n.ensures c.requires.room (cc (c.push.ensures, c.row.ensures)))
 

@@ -5,7 +5,7 @@ use Rattle.storage.specs.Lists.Map.{entry}
 use Rattle.storage.specs.Tables.Listed.{listed}
 use Rattle.protocol.specs.State.{State}
 use Rattle.block.specs.View.{link_of}
-use Rattle.block.specs.Goes.{Goes}
+use Rattle.block.specs.Becomes.{Becomes}
 use Rattle.block.specs.LinkSteps.{mark_value, mark_at, peer_at}
 use Rattle.block.specs.Views.{shown}
 use Rattle.block.specs.declared.links.NumberedLink.{NumberedLink}
@@ -19,7 +19,7 @@ pub store-requires : goal.store-requires
 store-requires c = let p = c.args.self.now in (omega (arith, c.requires.1, count-links p.head p.block.now), search rules)
 
 goes : (c : After-store) → let p = c.args.self.now in
-    Goes (mark_at c.args.link (mark_value c.args.mark)) p.head p.block.now p.head (given_back c.rows.result p.block.now c.store.new.bytes)
+    Becomes (mark_at c.args.link (mark_value c.args.mark)) p.head p.block.now p.head (given_back c.rows.result p.block.now c.store.new.bytes)
 goes c =
     let p = c.args.self.now in
     let i = c.args.link in

@@ -2,7 +2,7 @@
 use Rattle.std.proofs.Common.{refl, ◌-◌, ◌<◌, arith, lit<}
 use Rattle.protocol.specs.Neighbours.{forget_peer}
 use Rattle.block.specs.View.{limits_of}
-use Rattle.block.specs.Goes.{Goes}
+use Rattle.block.specs.Becomes.{Becomes}
 use Rattle.block.specs.Heads.{with_link_count}
 use Rattle.block.specs.Panels.{state}
 use Rattle.block.specs.LinkSteps.{peer_at}
@@ -29,7 +29,7 @@ overflow_sub-lowered c = omega (arith, below (goal.at.overflow_sub-lowered c).St
 
 goes : (c : After-remove) → let p = c.args.self.now in
     let low = c.lower_links-lowered in
-    Goes (forget_peer (peer_at (state p) c.args.link)) p.head p.block.now (with_link_count (low.result.live.links - 1) low.result) (given_back c.rows.result low.new.block c.remove.new.bytes)
+    Becomes (forget_peer (peer_at (state p) c.args.link)) p.head p.block.now (with_link_count (low.result.live.links - 1) low.result) (given_back c.rows.result low.new.block c.remove.new.bytes)
 goes c =
     let p = c.args.self.now in
     let low = c.lower_links-lowered in

@@ -1,6 +1,6 @@
 -- The row less is a missing message less.
 use Rattle.std.proofs.Common.{rules, arith, ◌-◌, refl}
-use Rattle.block.specs.Goes.{Goes}
+use Rattle.block.specs.Becomes.{Becomes}
 use Rattle.block.specs.Heads.{with_missing_count}
 use Rattle.block.specs.MissingSteps.{miss_out_at}
 use Rattle.block.proofs.Lent.{given_back}
@@ -15,7 +15,7 @@ pub overflow_sub-self : goal.overflow_sub-self
 overflow_sub-self c = let p = c.args.self.now in omega (arith, c.requires.1, count-missing p.head p.block.now)
 
 goes : (c : After-remove) → let p = c.args.self.now in
-    Goes (miss_out_at c.args.missing) p.head p.block.now (with_missing_count (p.head.live.missing - 1) p.head) (given_back c.rows.result p.block.now c.remove.new.bytes)
+    Becomes (miss_out_at c.args.missing) p.head p.block.now (with_missing_count (p.head.live.missing - 1) p.head) (given_back c.rows.result p.block.now c.remove.new.bytes)
 goes c =
     let p = c.args.self.now in
     missing-out p.head p.block.now c.rows.result c.rows.ensures c.args.missing c.remove.new.bytes p.sound c.requires.0 (missing-below p.head p.block.now c.args.missing c.requires.1) c.remove.auto.bytes c.remove.ensures

@@ -5,7 +5,7 @@ use Rattle.storage.specs.Rows.Ident.{id_of}
 use Rattle.storage.specs.Rows.Sorted.{Here, Between, FoundIs}
 use Rattle.time_cache.specs.Tables.{row_at}
 use Rattle.protocol.specs.State.{State}
-use Rattle.block.specs.Goes.{Goes}
+use Rattle.block.specs.Becomes.{Becomes}
 use Rattle.block.specs.Caches.CachedReads.{row_of}
 use Rattle.block.specs.Panels.{state}
 use Rattle.block.specs.Contents.Starts.{len_of}
@@ -37,7 +37,7 @@ resize_row-self-requires c =
           (set_room p.head p.block.now a.content.now (id_of a.id) c.in-Ok.entry p.sound c.requires.order at c.requires.room),
     )
 
-goes : (c : After-resize_row-self) → let p = c.args.self.now in Goes (refilled (id_of c.args.id) c.args.content.now) p.head p.block.now c.resize_row-self.result c.resize_row-self.new.block
+goes : (c : After-resize_row-self) → let p = c.args.self.now in Becomes (refilled (id_of c.args.id) c.args.content.now) p.head p.block.now c.resize_row-self.result c.resize_row-self.new.block
 goes c =
     let a = c.args in
     let p = a.self.now in

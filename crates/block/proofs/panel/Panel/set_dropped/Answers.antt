@@ -1,7 +1,7 @@
 -- Number and row are another note in their place.
 use Rattle.std.proofs.Common.{ap, ℕ, ◌+◌, ◌-◌, arith, length-set, length-take-le, length-drop, refl, set, drop}
 use Rattle.storage.specs.Rows.Ident.{id_of}
-use Rattle.block.specs.Goes.{Goes}
+use Rattle.block.specs.Becomes.{Becomes}
 use Rattle.block.specs.NoteSteps.{drop_instead}
 use Rattle.block.specs.declared.note.NoteTable.TheVariants.{Record}
 use Rattle.block.proofs.Lent.{given_back}
@@ -29,7 +29,7 @@ store-requires c =
     )
 
 goes : (c : After-store) → let p = c.args.self.now in
-    Goes (drop_instead c.args.row c.args.note.link (id_of c.args.note.id) c.args.note.round.0) p.head p.block.now p.head
+    Becomes (drop_instead c.args.row c.args.note.link (id_of c.args.note.id) c.args.note.round.0) p.head p.block.now p.head
     (given_back c.rows-rows.result (set p.block.now (c.numbers_at.result + c.args.row) c.args.note.link) c.store.new.bytes)
 goes c =
     let p = c.args.self.now in

@@ -1,6 +1,6 @@
 -- The notes of one peer, passed by a cursor in each of two lists, and the notes of all links.
 -- Assumes nothing.
-use Rattle.std.proofs.Common.{◌≡◌, sym, ap, ◌∙◌, Bool, true, false, ◌&&◌, List, [], ◌∷◌, ℕ, ◌+◌, ◌≤◌, ◌<◌, add-one, arith, eqb-true, eq-eqb, leb-true, leb-false, eqb, leb, length, drop, get_or, drop_of_length-le, drop-cons}
+use Rattle.std.proofs.Common.{◌≡◌, sym, ap, ◌∙◌, Bool, true, false, ◌&&◌, List, [], ◌∷◌, ℕ, ◌+◌, ◌≤◌, ◌<◌, add-one, eqb-true, eq-eqb, leb-true, leb-false, eqb, leb, length, drop, get_or, drop_of_length-le, drop-cons}
 use Rattle.storage.specs.Lists.Base.{filter}
 use Rattle.storage.proofs.ListsLaws.MapLaws.{cases, true≢}
 use Rattle.storage.proofs.ListsLaws.ListLaws.{all_append}
@@ -11,14 +11,13 @@ use Rattle.protocol.specs.Push.{for_peer}
 use Rattle.protocol.specs.Alike.{same_list, same_note, same_notes}
 use Rattle.protocol.proofs.AlikeCallsLaws.Reflect.{tells-notes}
 use Rattle.protocol.proofs.AlikeCallsLaws.Stay.{list-refl, note-refl}
-use Rattle.block.specs.View.{state_of}
-use Rattle.block.specs.Sound.{Sound}
 use Rattle.block.specs.LinkSteps.{peer_at}
 use Rattle.block.specs.NoteSteps.{note, notes_of}
-use Rattle.block.specs.declared.head.Head.{Head}
+use Rattle.block.specs.Views.{shown}
+use Rattle.block.specs.declared.panel.View.{View}
 use Rattle.block.specs.declared.note.Note.{Note as LinkNote}
 use Rattle.block.specs.declared.note.NoteTable.{NoteTable}
-use Rattle.block.proofs.NoteLaws.{count-notes, note-link}
+use Rattle.block.proofs.NoteLaws.{note-link}
 use Rattle.alike.specs.NoteTable.{same_inside, same_for, NextOf}
 
 -- a note for another peer is passed, one for the peer is the first of those that are left
@@ -102,16 +101,16 @@ notes-no p xs ys e =
     (λ t. t)
 
 -- the notes of every link agree
-module _ (of : NoteTable) (ha : Head) (a : List ℕ) (hb : Head) (b : List ℕ) (sound : Sound ha a) (sound' : Sound hb b) where
+module _ (of : NoteTable) (v w : View) where
   abbrev xs : List Note
-  xs = notes_of of (state_of ha a)
+  xs = notes_of of (shown v)
 
   abbrev ys : List Note
-  ys = notes_of of (state_of hb b)
+  ys = notes_of of (shown w)
 
-  pub notes-yes : ((l : ℕ) → l < ha.live.links → same_for (peer_at (state_of ha a) l) xs ys ≡ true) → ((l : ℕ) → l < hb.live.links → same_for (peer_at (state_of hb b) l) xs ys ≡ true) → same_notes xs ys ≡ true
+  pub notes-yes : ((l : ℕ) → l < length (shown v).links → same_for (peer_at (shown v) l) xs ys ≡ true) → ((l : ℕ) → l < length (shown w).links → same_for (peer_at (shown w) l) xs ys ≡ true) → same_notes xs ys ≡ true
   unfolding same_notes
   notes-yes f g =
       all_append (λ n. same_for n.peer xs ys) xs ys
-      (at_all (λ n. same_for n.peer xs ys) (note 0 0 0) xs (λ i h. let k = note-link ha a sound of i (omega (arith, h, count-notes ha a sound of)) in ap (λ (q : ℕ). same_for q xs ys) k.peer ∙ f _ k.below))
-      (at_all (λ n. same_for n.peer xs ys) (note 0 0 0) ys (λ i h. let k = note-link hb b sound' of i (omega (arith, h, count-notes hb b sound' of)) in ap (λ (q : ℕ). same_for q xs ys) k.peer ∙ g _ k.below))
+      (at_all (λ n. same_for n.peer xs ys) (note 0 0 0) xs (λ i h. let k = note-link v.head.now v.block.now v.sound of i h in ap (λ (q : ℕ). same_for q xs ys) k.peer ∙ f _ k.below))
+      (at_all (λ n. same_for n.peer xs ys) (note 0 0 0) ys (λ i h. let k = note-link w.head.now w.block.now w.sound of i h in ap (λ (q : ℕ). same_for q xs ys) k.peer ∙ g _ k.below))

@@ -1,6 +1,6 @@
 -- Lists, compared by their elements.
 -- Assumes nothing.
-use Rattle.std.proofs.Common.{◌≡◌, refl, sym, ap, ◌∙◌, ◌⊎◌, inl, inr, Bool, true, false, not, ◌&&◌, List, [], ◌∷◌, map, ℕ, zero, suc, ◌+◌, ◌-◌, ◌≤◌, ◌<◌, zero-le, suc-le-suc, le_of_suc-le-suc, not-suc-le-zero, arith, eq-eqb, eqb-true, eqb, length, get_or, if◌then◌else◌, None}
+use Rattle.std.proofs.Common.{◌≡◌, refl, sym, ap, ◌∙◌, ◌⊎◌, inl, inr, Bool, true, false, ◌&&◌, List, [], ◌∷◌, map, ℕ, zero, suc, ◌+◌, ◌-◌, ◌≤◌, ◌<◌, zero-le, suc-le-suc, le_of_suc-le-suc, not-suc-le-zero, arith, eq-eqb, eqb-true, eqb, length, get_or}
 use Rattle.storage.specs.Lists.Map.{Map, keys}
 use Rattle.storage.proofs.ListsLaws.MapLaws.{true≢, and_left, and_right, and_intro}
 use Rattle.storage.specs.Rows.Part.{part}
@@ -10,8 +10,7 @@ use Rattle.storage.proofs.RowsLaws.Parts.{length_part, get_d_part}
 use Rattle.storage.proofs.RefsLaws.Shifts.{low_or_high}
 use Rattle.time_cache.specs.TimeCache.{Expiry}
 use Rattle.protocol.specs.State.{State, Hop}
-use Rattle.protocol.specs.Alike.{same_list, same_map, same_option, same_mark, same_hop, same_expiry}
-use Rattle.block.specs.View.{flag_of, only_if}
+use Rattle.protocol.specs.Alike.{same_list, same_map, same_mark, same_hop, same_expiry}
 use Rattle.alike.specs.Elements.{element, same_element, hop_element, graft_element, expiry_element}
 use Rattle.alike.specs.Rows.{same_entry, SameUpTo}
 
@@ -97,20 +96,6 @@ same_keys same (d ∷ m) (e ∷ n) h =
 -- links that are the same have the same peers
 pub links_keys : (s t : State) → same_map same_mark s.links t.links ≡ true → keys s.links ≡ keys t.links
 links_keys s t = same_keys same_mark s.links t.links
-
--- a flag in a byte
-pub flag_is : (b : ℕ) → not (eqb b 0) ≡ flag_of b
-flag_is b = go (eqb b 0)
-  where
-    go : (t : Bool) → not t ≡ (if t then false else true)
-    go true = refl
-    go false = refl
-
--- of senders, none is there but perhaps the second
-pub none-there : (b : Bool) (q : Hop) → same_option same_hop None (only_if b q) ≡ not b
-unfolding same_option
-none-there true q = refl
-none-there false q = refl
 
 -- words of bytes that agree
 module _ (i : ℕ) (xs ys : List ℕ) (bytes : Bytes xs) (bytes' : Bytes ys) (h : i + 8 ≤ length xs) (h' : i + 8 ≤ length ys) (e : le_nat (part i 8 xs) ≡ le_nat (part i 8 ys)) where

@@ -12,7 +12,6 @@ use block::caches::received::ReceivedMessages;
 use block::hops::Hop;
 use block::panel::View;
 use block::time_caches::PanelCache;
-use storage::rows::id;
 use storage::rows::id::Id;
 use time_cache::cache::TimeBoundCache;
 
@@ -47,10 +46,9 @@ pub fn row_item(cache: TimeBoundCache, block: &[u8], place: usize) -> Item
     requires { Lies cache block.now × (place < cache.expiry.len) }
     ensures { element_of result ≡ expiry_element (expiry_of (row_at (rows_at cache block.now) place)) }
 {
-    let at = cache.expiry.at + place * cache.expiry.stride;
     Item {
         a: cache.expires(block, place).0,
-        id: id::load_id(block, at + 8),
+        id: cache.key_at(block, place),
         b: 0,
     }
 }

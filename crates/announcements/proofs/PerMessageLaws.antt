@@ -1,6 +1,6 @@
 -- How many identifiers an IHave takes.
 -- Assumes nothing.
-use Rattle.std.proofs.Common.{◌≡◌, ℕ, ◌≤◌, arith, leb-true, leb}
+use Rattle.std.proofs.Common.{ℕ, ◌≤◌, arith, leb-true, leb}
 use Rattle.protocol.specs.State.{State, size_in_range}
 use Rattle.protocol.specs.Consistent.{Ranged}
 use Rattle.protocol.specs.Ticks.{per_message}

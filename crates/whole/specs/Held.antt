@@ -1,6 +1,6 @@
 -- What a block holds: the state that its bytes stand for, or nothing where they stand for none. Question 5 of the specification is asked of that state.
 -- Assumes nothing.
-use Rattle.std.specs.Prelude.{ℕ, ◌+◌, ◌*◌, Bool, false, ◌&&◌, List, [], ◌∷◌, leb, ltb, eqb, length, take, drop, get_or, if◌then◌else◌, Option, Some, None}
+use Rattle.std.specs.Prelude.{ℕ, ◌*◌, Bool, false, ◌&&◌, List, [], leb, ltb, eqb, length, take, drop, get_or, if◌then◌else◌, Option, Some, None}
 use Rattle.storage.specs.Lists.Base.{all}
 use Rattle.storage.specs.Rows.Rows.{rows}
 use Rattle.storage.specs.Refs.Refs.{refs, places}

@@ -27,21 +27,29 @@ returns-then-not-is_whole-2 c =
     let b = c.args.b.now in
     sym (ap (likeness_of (whole_state (length a) (held a))) (not-whole b (no c.is_whole-2.ensures (ap not c.if-not-is_whole-2.true))) ∙ second-not (whole_state (length a) (held a)))
 
-pub load_head-ha-requires : goal.load_head-ha-requires
-load_head-ha-requires c = has-header c.args.a.now (wholly_of c.args.a.now (yes c.is_whole.ensures (ap not c.if-not-is_whole.false)))
+pub load_head-head_a-requires : goal.load_head-head_a-requires
+load_head-head_a-requires c = has-header c.args.a.now (wholly_of c.args.a.now (yes c.is_whole.ensures (ap not c.if-not-is_whole.false)))
 
-pub load_head-hb-requires : goal.load_head-hb-requires
-load_head-hb-requires c = has-header c.args.b.now (wholly_of c.args.b.now (yes c.is_whole-2.ensures (ap not c.if-not-is_whole-2.false)))
+pub load_head-head_b-requires : goal.load_head-head_b-requires
+load_head-head_b-requires c = has-header c.args.b.now (wholly_of c.args.b.now (yes c.is_whole-2.ensures (ap not c.if-not-is_whole-2.false)))
+
+pub invariant_of-x : goal.invariant_of-x
+invariant_of-x c =
+    let a = c.args.a.now in
+    record { sound = subst (λ (h : Head). Sound h a) (sym c.load_head-head_a.ensures) (wholly_of a (yes c.is_whole.ensures (ap not c.if-not-is_whole.false))).sound }
+
+pub invariant_of-y : goal.invariant_of-y
+invariant_of-y c =
+    let b = c.args.b.now in
+    record { sound = subst (λ (h : Head). Sound h b) (sym c.load_head-head_b.ensures) (wholly_of b (yes c.is_whole-2.ensures (ap not c.if-not-is_whole-2.false))).sound }
 
 pub same_states-requires : goal.same_states-requires
 same_states-requires c =
     let a = c.args.a.now in
-    let b = c.args.b.now in
-    let wa = wholly_of a (yes c.is_whole.ensures (ap not c.if-not-is_whole.false)) in
-    let wb = wholly_of b (yes c.is_whole-2.ensures (ap not c.if-not-is_whole-2.false)) in
-    let x = subst (λ (h : Head). Sound h a × LinksAscend h a) (sym c.load_head-ha.ensures) (wa.sound, links-ascend a wa) in
-    let y = subst (λ (h : Head). Sound h b × LinksAscend h b) (sym c.load_head-hb.ensures) (wb.sound, links-ascend b wb) in
-    (x.0, x.1, y.0, y.1)
+    let b = c.args.b.now in (
+      subst (λ (h : Head). LinksAscend h a) (sym c.load_head-head_a.ensures) (links-ascend a (wholly_of a (yes c.is_whole.ensures (ap not c.if-not-is_whole.false)))),
+      subst (λ (h : Head). LinksAscend h b) (sym c.load_head-head_b.ensures) (links-ascend b (wholly_of b (yes c.is_whole-2.ensures (ap not c.if-not-is_whole-2.false)))),
+    )
 
 pub returns : goal.returns
 unfolding alike_blocks likeness_of
@@ -50,5 +58,5 @@ returns c =
     let b = c.args.b.now in
     let wa = wholly_of a (yes c.is_whole.ensures (ap not c.if-not-is_whole.false)) in
     let wb = wholly_of b (yes c.is_whole-2.ensures (ap not c.if-not-is_whole-2.false)) in
-    let same = c.same_states.ensures ∙ (λ k. alike (state_of (c.load_head-ha.ensures k) a) (state_of (c.load_head-hb.ensures k) b)) in
+    let same = c.same_states.ensures ∙ (λ k. alike (state_of (c.load_head-head_a.ensures k) a) (state_of (c.load_head-head_b.ensures k) b)) in
     sym ((λ k. likeness_of (whole-state a wa k) (whole-state b wb k)) ∙ ap likeness (sym same))

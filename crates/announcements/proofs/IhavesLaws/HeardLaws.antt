@@ -21,9 +21,9 @@ use Rattle.protocol.proofs.WholeKept.{known-announcers}
 use Rattle.decide.specs.StateAfter.{announced_state, ihave_state}
 use Rattle.block.specs.LinkSteps.{peer_at}
 use Rattle.block.specs.MissingSteps.{hop, announced}
+use Rattle.block.specs.TimerSteps.{timer_marked}
 use Rattle.block.proofs.Few.{once-few}
 use Rattle.block.proofs.LinkLaws.{neighbour-here}
-use Rattle.announcements.specs.Ihaves.Heard.{timer_marked}
 use Rattle.announcements.proofs.IhavesLaws.Longer.{insert-longer, insert_key-longer, with_heard, fits-fewer}
 
 -- from s to t the missing messages and the timers alone change, and grow

@@ -5,7 +5,6 @@ use Rattle.postcard.specs.Message.{Ihave}
 use Rattle.protocol.specs.State.{State}
 use Rattle.decide.specs.StateAfter.{announced_state, ihave_state}
 use Rattle.block.specs.LinkSteps.{peer_at}
-unfoldable pub use Rattle.steps.specs.Asked.{timer_marked}
 
 -- an announcement of an identifier and a round
 abbrev pub ihave : ℕ → ℕ → Ihave

@@ -10,6 +10,7 @@ use Rattle.wire.proofs.ReaderLaws.AnnouncedLaws.{announced_count}
 use Rattle.protocol.specs.State.{State}
 use Rattle.protocol.specs.Run.{Room}
 use Rattle.payloads.specs.OnLateGraftReply.{copy_kind}
+use Rattle.block.specs.Sound.{Sound}
 use Rattle.block.specs.View.{state_of}
 use Rattle.block.specs.LinkSteps.{peer_at}
 use Rattle.block.specs.declared.head.Head.{Head}

@@ -1,5 +1,5 @@
 -- What the code computes is what the definitions say: question by question (`limit-5`, `limit-6`, `limit-fault`, `limit-event`), and with the link room in numbers (`core-limit`).
-use Rattle.std.proofs.Common.{ℕ, ◌^◌, ◌≤◌, ◌<◌, zero-le, ◌≡◌, refl, sym, ap, subst, ◌∙◌, Bool, true, false, not, ◌&&◌, List, leb, length, drop, le-leb, leb-true, leb-false, if◌then◌else◌, Option, Some, None}
+use Rattle.std.proofs.Common.{ℕ, ◌^◌, ◌≤◌, ◌<◌, ◌≡◌, refl, sym, ap, subst, ◌∙◌, Bool, true, false, not, ◌&&◌, List, leb, length, drop, le-leb, leb-true, leb-false, if◌then◌else◌, Option, Some, None}
 use borrow.Author.Tests.{lt-leb}
 use Rattle.storage.proofs.ListsLaws.Branches.{if-on, if-both, if-same}
 use Rattle.storage.proofs.ListsLaws.MapLaws.{cases}
@@ -27,7 +27,7 @@ use Rattle.steps.specs.declared.call.Rooms.{Rooms}
 use Rattle.whole.specs.Held.{held, whole_held, whole_block}
 use Rattle.whole.proofs.HeldLaws.{Wholly, wholly_of}
 use Rattle.machine.specs.Core.{begun, event_peer, event_size, core_rooms}
-use Rattle.machine.proofs.CoreLaws.{begun-of, core-rooms, same-fit, Reads}
+use Rattle.machine.proofs.CoreLaws.{need-of, core-rooms, same-fit, Reads}
 use Rattle.machine.specs.Decided.{size_fits}
 use Rattle.machine.specs.LimitMet.LimitMet.{limit_past, is13, asking, past_after, limit_of, limit_met}
 use Rattle.machine.specs.LimitMet.Decided.{event_past}
@@ -105,7 +105,7 @@ module _ (block : List ℕ) (w : Wholly block) where
 
   long-enough : long_enough (length block) s ≡ true
   unfolding long_enough state_of
-  long-enough = le-leb _ (length block) (begun-of block w 0 zero-le).long
+  long-enough = le-leb _ (length block) (need-of block w)
 
   limit-whole : (k : Call) → limit_met identifier (length block) (held block) k ≡ limit_of identifier (Some s) k
   unfolding limit_met whole_state

@@ -1,6 +1,6 @@
 -- The targets of an eager push, link by link, and those of them that hand it back.
 -- Assumes nothing.
-use Rattle.std.proofs.Common.{◌≡◌, refl, sym, ap, ◌∙◌, subst, Bool, true, false, not, ◌&&◌, List, [], ◌∷◌, ◌++◌, append-nil, ℕ, zero, suc, ◌+◌, ◌≤◌, ◌<◌, arith, add-one, ltb-true, lt-ltb, ne_eqb, eqb, leb, ltb, length, take, drop, get_or, take-append-drop, take-suc, take_all, get_or-take, length-take-le, if◌then◌else◌}
+use Rattle.std.proofs.Common.{◌≡◌, refl, sym, ap, ◌∙◌, subst, Bool, true, false, not, ◌&&◌, List, [], ◌∷◌, ◌++◌, append-nil, ℕ, zero, suc, ◌+◌, ◌≤◌, ◌<◌, arith, add-one, ltb-true, lt-ltb, ne_eqb, eqb, leb, ltb, length, take, get_or, take-suc, take_all, get_or-take, length-take-le, if◌then◌else◌}
 use borrow.Author.Tests.{not-true, not-false}
 use lib.ListN.{length-map, get_or-map}
 use Rattle.storage.specs.Lists.Base.{filter, member, all, ascending}

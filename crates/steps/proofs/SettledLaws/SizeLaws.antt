@@ -4,12 +4,10 @@ use Rattle.std.proofs.Common.{ℕ, zero, suc, ◌+◌, ◌≤◌, ◌<◌, ◌�
 use borrow.Author.Tests.{not-true, not-false}
 use Rattle.storage.specs.Lists.Base.{sum}
 use Rattle.storage.specs.Lists.Map.{Map}
-use Rattle.storage.proofs.RowsLaws.Parts.{length_part}
 use Rattle.time_cache.specs.TimeCache.{Timed, later_cache}
 use Rattle.protocol.specs.State.{State, Cached}
 use Rattle.protocol.specs.Whole.{content_held}
-use Rattle.block.specs.Layout.{place}
-use Rattle.block.specs.View.{state_of, limits_of}
+use Rattle.block.specs.View.{state_of}
 use Rattle.block.specs.Sound.{Sound}
 use Rattle.block.specs.declared.head.Head.{Head}
 use Rattle.block.proofs.LinkLaws.{count-links}

@@ -2,11 +2,11 @@
 use Rattle.std.proofs.Common.{◌≡◌, ◌≤◌, drop}
 use Rattle.storage.specs.Lists.Base.{filter}
 use Rattle.protocol.specs.Push.{for_peer}
-use Rattle.block.specs.View.{state_of}
+use Rattle.block.specs.Views.{shown}
 use Rattle.block.specs.LinkSteps.{peer_at}
 use Rattle.block.specs.NoteSteps.{notes_of}
 use Rattle.alike.proofs.by_link.next_of.Given as goal
 
 abbrev pub invariant-loop-i : goal.invariant-loop-i
 invariant-loop-i l =
-    (l.from ≤ l.i) × (l.i ≤ l.n) × (filter (for_peer (peer_at (state_of l.head l.block) l.of.link)) (drop l.from (notes_of l.of.table (state_of l.head l.block))) ≡ filter (for_peer (peer_at (state_of l.head l.block) l.of.link)) (drop l.i (notes_of l.of.table (state_of l.head l.block))))
+    (l.from ≤ l.i) × (l.i ≤ l.n) × (filter (for_peer (peer_at (shown l.view) l.of.link)) (drop l.from (notes_of l.of.table (shown l.view))) ≡ filter (for_peer (peer_at (shown l.view) l.of.link)) (drop l.i (notes_of l.of.table (shown l.view))))

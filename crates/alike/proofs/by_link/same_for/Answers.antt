@@ -3,7 +3,7 @@ use Rattle.std.proofs.Common.{not, ◌≡◌, sym, ap, ◌∙◌, subst, List, �
 use Rattle.whole.proofs.Tests.{no, yes}
 use Rattle.protocol.specs.State.{State, Note}
 use Rattle.protocol.specs.Alike.{same_note}
-use Rattle.block.specs.View.{state_of}
+use Rattle.block.specs.Views.{shown}
 use Rattle.block.specs.LinkSteps.{peer_at}
 use Rattle.block.specs.NoteSteps.{note, notes_of, count_of}
 use Rattle.block.specs.declared.note.Note.{Note as LinkNote}
@@ -16,10 +16,10 @@ use Rattle.alike.proofs.by_link.same_for.Goals.{After-same_note, At-loop-i, In-l
 -- the two lists, their lengths, and the peer
 module _ (s : Start) where
   abbrev sa : State
-  sa = state_of s.args.ha s.args.a.now
+  sa = shown s.args.x.now
 
   abbrev sb : State
-  sb = state_of s.args.hb s.args.b.now
+  sb = shown s.args.y.now
 
   abbrev p : ℕ
   p = peer_at sa s.args.of.link
@@ -30,15 +30,15 @@ module _ (s : Start) where
   abbrev ys : List Note
   ys = notes_of s.args.of.table sb
 
-  many_xs : length xs ≡ count_of s.args.of.table s.args.ha.live
-  many_xs = count-notes s.args.ha s.args.a.now s.requires.sound.0 s.args.of.table
+  many_xs : length xs ≡ count_of s.args.of.table s.args.x.now.head.now.live
+  many_xs = count-notes s.args.x.now.head.now s.args.x.now.block.now s.args.x.now.sound s.args.of.table
 
-  many-ys : length ys ≡ count_of s.args.of.table s.args.hb.live
-  many-ys = count-notes s.args.hb s.args.b.now s.requires.sound.3 s.args.of.table
+  many-ys : length ys ≡ count_of s.args.of.table s.args.y.now.head.now.live
+  many-ys = count-notes s.args.y.now.head.now s.args.y.now.block.now s.args.y.now.sound s.args.of.table
 
   -- what was found in the second list, of the one peer
   in-second : (from r : ℕ) → NextOf (peer_at sb s.args.of.link) from ys r → NextOf p from ys r
-  in-second from r h = subst (λ (q : ℕ). NextOf q from ys r) (sym s.requires.link_value) h
+  in-second from r h = subst (λ (q : ℕ). NextOf q from ys r) (sym s.requires.same_peer) h
 
 -- in the loop
 module _ (d : In-loop-i) where
@@ -48,10 +48,10 @@ module _ (d : In-loop-i) where
   abbrev s₁ : Start
   s₁ = (goal.at.At-loop-i l).Start
 
-  n-is : l.count-n.result ≡ count_of s₁.args.of.table s₁.args.ha.live
+  n-is : l.count-n.result ≡ count_of s₁.args.of.table s₁.args.x.now.head.now.live
   n-is = l.count-n.ensures
 
-  m-is : l.count-m.result ≡ count_of s₁.args.of.table s₁.args.hb.live
+  m-is : l.count-m.result ≡ count_of s₁.args.of.table s₁.args.y.now.head.now.live
   m-is = l.count-m.ensures
 
   more-xs : l.loop-i.i < length (xs s₁)
@@ -61,6 +61,18 @@ pub returns-then-m-j : goal.returns-then-m-j
 returns-then-m-j c =
     let s = s₁ (goal.at.returns-then-m-j c).In-loop-i in
     cursors-short (p s) (xs s) (ys s) c.loop-i.i c.loop-i.j c.loop-i.invariant (more-xs (goal.at.returns-then-m-j c).In-loop-i) (omega (arith, many-ys s, m-is (goal.at.returns-then-m-j c).In-loop-i, c.if-m-j.true))
+
+pub note_at-requires : goal.note_at-requires
+note_at-requires c = omega (arith, many_xs (goal.at.note_at-requires c).Start, c.count-n.ensures, c.loop-i-test.true)
+
+pub note_at-requires-in-loop-i : goal.note_at-requires-in-loop-i
+note_at-requires-in-loop-i c = omega (arith, many-ys (goal.at.note_at-requires-in-loop-i c).Start, c.count-m.ensures, c.if-m-j.false)
+
+pub next_of-i-requires-in-loop-i : goal.next_of-i-requires-in-loop-i
+next_of-i-requires-in-loop-i c = (c.requires.up.0, c.requires.there.0, omega (arith, many_xs (goal.at.next_of-i-requires-in-loop-i c).Start, c.count-n.ensures, c.loop-i-test.true))
+
+pub next_of-j-requires-in-loop-i : goal.next_of-j-requires-in-loop-i
+next_of-j-requires-in-loop-i c = (c.requires.up.1, c.requires.there.1, omega (arith, many-ys (goal.at.next_of-j-requires-in-loop-i c).Start, c.count-m.ensures, c.if-m-j.false))
 
 -- the two notes that were read
 module _ (e : After-same_note) where
@@ -84,10 +96,10 @@ module _ (e : After-same_note) where
 
   compared : same_note (get_or (xs s₂) i₁ (note 0 0 0)) (get_or (ys s₂) j₁ (note 0 0 0)) ≡ e.same_note.result
   compared =
-      let x : LinkNote = e.note_at-x.result in
-      let y : LinkNote = e.note_at-y.result in
-      let u = e.note_at-x.ensures.same in
-      let v = e.note_at-y.ensures.same in
+      let x : LinkNote = e.note_at.result in
+      let y : LinkNote = e.note_at-in-loop-i.result in
+      let u = e.note_at.ensures.same in
+      let v = e.note_at-in-loop-i.ensures.same in
       same-inside (p s₂) (get_or (xs s₂) i₁ (note 0 0 0)) (get_or (ys s₂) j₁ (note 0 0 0)) x y (inv.at_first (more-xs d₁)) (inv.at_second more-ys)
       (ap (λ (n : Note). n.id) u) (ap (λ (n : Note). n.round) u) (ap (λ (n : Note). n.id) v) (ap (λ (n : Note). n.round) v)
       ∙ sym e.same_note.ensures

@@ -1,7 +1,7 @@
 -- `sequences::same_sequence`: the first j elements agree.
 use Rattle.std.proofs.Common.{ap, not, ◌≡◌, sym, ◌∙◌, List, ℕ, ◌<◌, length, get_or, below_more, arith, rules}
 use Rattle.whole.proofs.Tests.{no, yes}
-use Rattle.block.specs.View.{state_of}
+use Rattle.block.specs.Views.{shown}
 use Rattle.alike.specs.Elements.{Element, element, same_element, sequence_of}
 use Rattle.alike.proofs.Lists.{list-yes, list-no, list_length}
 use Rattle.alike.proofs.sequences.same_sequence.Invariants.{Agree}
@@ -11,10 +11,10 @@ use Rattle.alike.proofs.sequences.same_sequence.Goals.{After-same, Start}
 -- the two lists
 module _ (s : Start) where
   abbrev A : List Element
-  A = sequence_of s.args.of (state_of s.args.ha s.args.a.now)
+  A = sequence_of s.args.of (shown s.args.x.now)
 
   abbrev B : List Element
-  B = sequence_of s.args.of (state_of s.args.hb s.args.b.now)
+  B = sequence_of s.args.of (shown s.args.y.now)
 
 -- element j of both, as it was read
 module _ (d : After-same) where

@@ -2,7 +2,7 @@
 use Rattle.std.proofs.Common.{sym, ap, ◌∙◌, length}
 use lib.ListN.{length-map}
 use Rattle.alike.specs.Elements.{expiry_element, sequence_of}
-use Rattle.block.specs.View.{state_of}
+use Rattle.block.specs.Views.{shown}
 use Rattle.block.proofs.CachesLaws.ReceivedLaws.{count-received-rows}
 use Rattle.block.proofs.CachesLaws.GraftedLaws.{count-grafted-rows}
 use Rattle.block.proofs.CachesLaws.CachedLaws.{count-cached-rows}
@@ -11,15 +11,15 @@ use Rattle.alike.proofs.sequences.size.Goals as goal
 
 pub returns-in-ReceivedExpiry : goal.returns-in-ReceivedExpiry
 returns-in-ReceivedExpiry c =
-    let st = state_of c.args.head c.args.block.now in
-    sym (ap (λ (q : Sequence). length (sequence_of q st)) c.in-ReceivedExpiry.is ∙ length-map st.received.expiry expiry_element ∙ count-received-rows c.args.head c.args.block.now c.requires.0.fit)
+    let st = shown c.args.view.now in
+    sym (ap (λ (q : Sequence). length (sequence_of q st)) c.in-ReceivedExpiry.is ∙ length-map st.received.expiry expiry_element ∙ count-received-rows c.args.view.now.head.now c.args.view.now.block.now c.args.view.now.sound.fit)
 
 pub returns-in-GraftedExpiry : goal.returns-in-GraftedExpiry
 returns-in-GraftedExpiry c =
-    let st = state_of c.args.head c.args.block.now in
-    sym (ap (λ (q : Sequence). length (sequence_of q st)) c.in-GraftedExpiry.is ∙ length-map st.grafted.expiry expiry_element ∙ count-grafted-rows c.args.head c.args.block.now c.requires.0.fit)
+    let st = shown c.args.view.now in
+    sym (ap (λ (q : Sequence). length (sequence_of q st)) c.in-GraftedExpiry.is ∙ length-map st.grafted.expiry expiry_element ∙ count-grafted-rows c.args.view.now.head.now c.args.view.now.block.now c.args.view.now.sound.fit)
 
 pub returns-in-CachedExpiry : goal.returns-in-CachedExpiry
 returns-in-CachedExpiry c =
-    let st = state_of c.args.head c.args.block.now in
-    sym (ap (λ (q : Sequence). length (sequence_of q st)) c.in-CachedExpiry.is ∙ length-map st.cache.expiry expiry_element ∙ count-cached-rows c.args.head c.args.block.now c.requires.0.fit)
+    let st = shown c.args.view.now in
+    sym (ap (λ (q : Sequence). length (sequence_of q st)) c.in-CachedExpiry.is ∙ length-map st.cache.expiry expiry_element ∙ count-cached-rows c.args.view.now.head.now c.args.view.now.block.now c.args.view.now.sound.fit)

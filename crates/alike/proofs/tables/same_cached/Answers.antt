@@ -1,73 +1,80 @@
 -- `tables::same_cached`: key and expiry, round, content.
-use Rattle.std.proofs.Common.{not, ◌≡◌, sym, ap, ◌∙◌, subst, ◌&&◌, List, ℕ, ◌+◌, ◌-◌, eqb, take, drop, eq-eqb, ne_eqb}
-use Rattle.whole.proofs.Tests.{no, yes}
-use Rattle.block.specs.View.{state_of, limits_of}
-use Rattle.block.specs.declared.head.Head.{Head}
+use Rattle.std.proofs.Common.{◌≡◌, refl, sym, ◌∙◌, Bool, true, false, ◌&&◌, eqb}
+use Rattle.block.specs.Views.{shown}
 use Rattle.protocol.specs.Alike.{same_list, same_cached}
-use Rattle.alike.proofs.Lists.{and_no, and-no-left, and_yes}
-use Rattle.alike.specs.Rows.{cached_entry}
+use Rattle.alike.specs.Rows.{same_entry, same_timed, cached_entry}
 use Rattle.alike.specs.Elements.{same_element}
-use Rattle.time_cache.specs.declared.cache.TimeBoundCache.{TimeBoundCache}
-use Rattle.alike.proofs.Entries.{key_of, entry-same, Asks, key_at, cached-asks, cached-key}
+use Rattle.alike.proofs.BlockReads.{key_of, key-read}
+use Rattle.alike.proofs.Entries.{entry-same, asked, no_cached, cached-named}
+use Rattle.block.specs.TimeCaches.{cached_cache}
 use Rattle.storage.specs.Lists.Map.{Entry}
 use Rattle.time_cache.specs.TimeCache.{Timed}
 use Rattle.protocol.specs.State.{Cached}
-use Rattle.storage.specs.Rows.Part.{part}
-use Rattle.storage.proofs.RowsLaws.Parts.{part-between}
-use Rattle.block.specs.Layout.{place}
-use Rattle.block.specs.Caches.CachedReads.{cached_at, ContentIs}
-use Rattle.block.specs.declared.caches.cached.Extent.{Extent}
 use Rattle.alike.proofs.tables.same_cached.Goals as goal
-use Rattle.alike.proofs.tables.same_cached.Goals.{After-same_key, Start}
+use Rattle.alike.proofs.tables.same_cached.Goals.{Joined-same_key, then-same_key, else-same_key}
 
--- the content that is lent
-content-lent : (h : Head) (xs : List ℕ) (i : ℕ) (r : Extent) (b : ℕ) → b ≡ place (limits_of h.limits) 6 → ContentIs h xs i r
-    → take (b + r.start + r.len - (b + r.start)) (drop (b + r.start) xs) ≡ (cached_at (state_of h xs) i).content
-content-lent h xs i r b e w = part-between (b + r.start) r.len xs ∙ ap (λ (a : ℕ). part (a + r.start) r.len xs) e ∙ sym w.same
+-- the round is compared before the content
+swap : (e r m : Bool) → ((e && r) && m) ≡ (e && (m && r))
+swap true true true = refl
+swap true true false = refl
+swap true false true = refl
+swap true false false = refl
+swap false r m = refl
 
--- what the comparison of keys told
-module _ (d : After-same_key) where
-  abbrev s : Start
-  s = (goal.at.After-same_key d).Start
-
+-- what the tests told
+module _ (d : Joined-same_key) where
   abbrev p : Entry (Timed Cached)
-  p = cached_entry (state_of s.args.ha s.args.a.now) s.args.i
+  p = cached_entry (shown d.args.x.now) d.args.i
 
   abbrev q : Entry (Timed Cached)
-  q = cached_entry (state_of s.args.hb s.args.b.now) s.args.i
+  q = cached_entry (shown d.args.y.now) d.args.i
 
-  key-told : d.same_key.result ≡ same_element (key_of p) (key_of q)
+  -- the parts of the value
+  abbrev E : Bool
+  E = same_element (key_of p) (key_of q)
+
+  abbrev R : Bool
+  R = eqb p.value.value.round q.value.value.round
+
+  abbrev M : Bool
+  M = same_list eqb p.value.value.content q.value.value.content
+
+  key-told : d.same_key.result ≡ E
   key-told =
-      let a = s.args in
-      let x = ap (λ (t : TimeBoundCache). key_at t a.a.now a.i) d.table.ensures.at ∙ cached-key a.ha a.a.now s.requires.0 a.i s.requires.1 in
-      let y = ap (λ (t : TimeBoundCache). key_at t a.b.now a.i) d.table-2.ensures.at ∙ cached-key a.hb a.b.now s.requires.2 a.i s.requires.3 in
+      let a = d.args in
+      let x = key-read d.table.result a.x.now.block.now (shown a.x.now).cache (d.table.ensures.stands a.x.now.block.now a.x.now.sound) a.i no_cached d.requires.0 in
+      let y = key-read d.table-2.result a.y.now.block.now (shown a.y.now).cache (d.table-2.ensures.stands a.y.now.block.now a.y.now.sound) a.i no_cached d.requires.1 in
       d.same_key.ensures ∙ (λ k. same_element (x k) (y k))
 
-pub same_key-requires : goal.same_key-requires
-same_key-requires c =
-    let a = c.args in record { lies = subst (λ (t : TimeBoundCache). Asks t a.a.now a.i) (sym c.table.ensures.at) (cached-asks a.ha a.a.now c.requires.0 a.i c.requires.1); lies_2 = subst (λ (t : TimeBoundCache). Asks t a.b.now a.i) (sym c.table-2.ensures.at) (cached-asks a.hb a.b.now c.requires.2 a.i c.requires.3) }
+  two-told : d.if-same_key.value ≡ (E && R)
+  two-told =
+      elim d.if-same_key.branch [
+        | then-same_key w ↦
+            let e : E ≡ true = sym key-told ∙ w.if-same_key.true in
+            w.value-is ∙ (λ k. eqb (w.cached_round.ensures k) (w.cached_round-then-same_key.ensures k)) ∙ sym (λ k. e k && R)
+        | else-same_key w ↦
+            let e : E ≡ false = sym key-told ∙ w.if-same_key.false in
+            w.value-is ∙ key-told ∙ e ∙ sym (λ k. e k && R)
+      ]
 
-pub returns-then-not-same_key : goal.returns-then-not-same_key
-returns-then-not-same_key c =
-    sym (entry-same same_cached (p (goal.at.returns-then-not-same_key c).After-same_key) (q (goal.at.returns-then-not-same_key c).After-same_key) ∙ and-no-left (same_element (key_of (p (goal.at.returns-then-not-same_key c).After-same_key)) (key_of (q (goal.at.returns-then-not-same_key c).After-same_key))) (same_cached (p (goal.at.returns-then-not-same_key c).After-same_key).value.value (q (goal.at.returns-then-not-same_key c).After-same_key).value.value) (no (key-told (goal.at.returns-then-not-same_key c).After-same_key) (ap not c.if-not-same_key.true)))
+  told : ((E && R) && M) ≡ same_entry (same_timed same_cached) p q
+  unfolding same_cached
+  told = swap E R M ∙ sym (entry-same same_cached p q)
+
+pub same_key-requires-clause-lies : goal.same_key-requires-clause-lies
+same_key-requires-clause-lies c = let a = c.args in asked c.table.result (cached_cache a.x.now.head.now) a.x.now.block.now (shown a.x.now).cache a.i (c.table.ensures.stands a.x.now.block.now a.x.now.sound) c.table.ensures.at (cached-named a.x.now) c.requires.0
+
+pub same_key-requires-clause-lies_2 : goal.same_key-requires-clause-lies_2
+same_key-requires-clause-lies_2 c = let a = c.args in asked c.table-2.result (cached_cache a.y.now.head.now) a.y.now.block.now (shown a.y.now).cache a.i (c.table-2.ensures.stands a.y.now.block.now a.y.now.sound) c.table-2.ensures.at (cached-named a.y.now) c.requires.1
 
 pub returns-then-cached_round : goal.returns-then-cached_round
-unfolding same_cached
 returns-then-cached_round c =
-    let x = (p (goal.at.returns-then-cached_round c).After-same_key).value.value in
-    let y = (q (goal.at.returns-then-cached_round c).After-same_key).value.value in
-    let rounds = sym (λ k. eqb (c.cached_round.ensures k) (c.cached_round-2.ensures k)) ∙ ne_eqb _ _ c.if-cached_round.true in
-    sym (entry-same same_cached (p (goal.at.returns-then-cached_round c).After-same_key) (q (goal.at.returns-then-cached_round c).After-same_key) ∙ and_no (same_element (key_of (p (goal.at.returns-then-cached_round c).After-same_key)) (key_of (q (goal.at.returns-then-cached_round c).After-same_key))) (same_cached x y) (and_no (same_list eqb x.content y.content) (eqb x.round y.round) rounds))
+    let d = (goal.at.returns-then-cached_round c).Joined-same_key in
+    let e : (E d && R d) ≡ true = sym (two-told d) ∙ c.if-cached_round.true in
+    c.same_bytes.ensures ∙ (λ k. same_list eqb (c.cached_content.ensures.content k) (c.cached_content-then-cached_round.ensures.content k)) ∙ sym (λ k. e k && M d) ∙ told d
 
-pub returns : goal.returns
-unfolding same_cached
-returns c =
-    let a = (s (goal.at.returns c).After-same_key).args in
-    let x = (p (goal.at.returns c).After-same_key).value.value in
-    let y = (q (goal.at.returns c).After-same_key).value.value in
-    let rounds = sym (λ k. eqb (c.cached_round.ensures k) (c.cached_round-2.ensures k)) ∙ eq-eqb _ _ c.if-cached_round.false in
-    let m = content-lent a.ha a.a.now a.i c.cached_content-x.result c.contents_at.result c.contents_at.ensures c.cached_content-x.ensures in
-    let n = content-lent a.hb a.b.now a.i c.cached_content-y.result c.contents_at-2.result c.contents_at-2.ensures c.cached_content-y.ensures in
-    c.same_bytes.ensures
-    ∙ (λ k. same_list eqb (m k) (n k))
-    ∙ sym (entry-same same_cached (p (goal.at.returns c).After-same_key) (q (goal.at.returns c).After-same_key) ∙ (λ k. yes (key-told (goal.at.returns c).After-same_key) (ap not c.if-not-same_key.false) k && (same_list eqb x.content y.content && rounds k)) ∙ and_yes (same_list eqb x.content y.content))
+pub returns-else-cached_round : goal.returns-else-cached_round
+returns-else-cached_round c =
+    let d = (goal.at.returns-else-cached_round c).Joined-same_key in
+    let e : (E d && R d) ≡ false = sym (two-told d) ∙ c.if-cached_round.false in
+    two-told d ∙ e ∙ sym (λ k. e k && M d) ∙ told d

@@ -1,29 +1,29 @@
 -- `tables::same_rows`: the first i rows agree.
 use Rattle.std.proofs.Common.{ap, not, ◌≡◌, sym, ◌∙◌, true, ℕ, below_more, arith, rules}
 use Rattle.whole.proofs.Tests.{no, yes}
-use Rattle.block.specs.View.{state_of}
+use Rattle.block.specs.Views.{shown}
 use Rattle.alike.specs.Rows.{same_row}
 use Rattle.alike.proofs.Entries.{rows-yes, rows-no, rows-length}
 use Rattle.alike.proofs.tables.same_rows.Goals as goal
 
 pub returns-then-n-rows_of : goal.returns-then-n-rows_of
 returns-then-n-rows_of c =
-    sym (rows-length c.args.ha c.args.a.now c.args.hb c.args.b.now c.requires.0.fit c.requires.1.fit c.args.table (λ e. c.if-n-rows_of.true (c.rows_of-n.ensures ∙ e ∙ sym c.rows_of.ensures)))
+    sym (rows-length (shown c.args.x.now) (shown c.args.y.now) c.args.table (λ e. c.if-n-rows_of.true (c.rows_of-n.ensures ∙ e ∙ sym c.rows_of.ensures)))
 
 pub returns-then-not-same_row : goal.returns-then-not-same_row
 returns-then-not-same_row c =
     let l = c.loop-i in
     let t = c.loop-i-test.true in
-    sym (rows-no c.args.ha c.args.a.now c.args.hb c.args.b.now c.requires.0.fit c.requires.1.fit c.args.table l.i
+    sym (rows-no (shown c.args.x.now) (shown c.args.y.now) c.args.table l.i
     (omega (arith, t, c.rows_of-n.ensures)) (omega (arith, t, c.if-n-rows_of.false, c.rows_of.ensures)) (no c.same_row.ensures (ap not c.if-not-same_row.true)))
 
 pub loop-i-preserved : goal.loop-i-preserved
 loop-i-preserved c =
     let l = c.loop-i in
-    (search rules, below_more (λ (k : ℕ). same_row c.args.table (state_of c.args.ha c.args.a.now) (state_of c.args.hb c.args.b.now) k ≡ true) l.i l.invariant.1 (yes c.same_row.ensures (ap not c.if-not-same_row.false)))
+    (search rules, below_more (λ (k : ℕ). same_row c.args.table (shown c.args.x.now) (shown c.args.y.now) k ≡ true) l.i l.invariant.1 (yes c.same_row.ensures (ap not c.if-not-same_row.false)))
 
 pub returns : goal.returns
 returns c =
     let l = c.loop-i in
-    sym (rows-yes c.args.ha c.args.a.now c.args.hb c.args.b.now c.requires.0.fit c.requires.1.fit c.args.table
+    sym (rows-yes (shown c.args.x.now) (shown c.args.y.now) c.args.table
     (sym c.rows_of-n.ensures ∙ c.if-n-rows_of.false ∙ c.rows_of.ensures) (λ k h. l.invariant.1 k (omega (arith, h, c.loop-i-test.false, c.rows_of-n.ensures))))

@@ -1,8 +1,8 @@
 -- `tables::same_rows`: the first i rows agree.
 use Rattle.std.proofs.Common.{◌≡◌, true, ℕ, ◌≤◌, ◌<◌}
-use Rattle.block.specs.View.{state_of}
+use Rattle.block.specs.Views.{shown}
 use Rattle.alike.specs.Rows.{same_row}
 use Rattle.alike.proofs.tables.same_rows.Given as goal
 
 abbrev pub invariant-loop-i : goal.invariant-loop-i
-invariant-loop-i l = (l.i ≤ l.n) × ((k : ℕ) → k < l.i → same_row l.table (state_of l.ha l.a) (state_of l.hb l.b) k ≡ true)
+invariant-loop-i l = (l.i ≤ l.n) × ((k : ℕ) → k < l.i → same_row l.table (shown l.x) (shown l.y) k ≡ true)

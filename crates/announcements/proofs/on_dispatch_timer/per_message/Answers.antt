@@ -1,3 +1,4 @@
+-- `per_message` meets its contract: M is at least 510.
 use Rattle.std.proofs.Common.{arith}
 use Rattle.block.specs.View.{state_of}
 use Rattle.announcements.proofs.PerMessageLaws.{size_low}

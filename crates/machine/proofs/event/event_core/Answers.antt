@@ -15,7 +15,7 @@ use Rattle.block.specs.Panels.{AtRest}
 use Rattle.machine.specs.Called.{counts_of, call_of, lent}
 use Rattle.machine.specs.Core.{core_rooms}
 use Rattle.machine.specs.Steps.{Keeps}
-use Rattle.machine.proofs.CoreLaws.{Reads, begun-reads, begun-fault, begun-of, long-of, header-long, core-outcome, found-no, found-yes}
+use Rattle.machine.proofs.CoreLaws.{Reads, begun-reads, begun-fault, rest-of, long-of, header-long, core-outcome, found-no, found-yes}
 use Rattle.machine.proofs.RunLaws.{left-holds}
 use Rattle.machine.proofs.event.event_core.Goals as goal
 use Rattle.machine.proofs.event.event_core.Goals.{Start, In_ok-event, After-load_head-head}
@@ -35,8 +35,7 @@ sound c = subst (λ (h : Head). Sound h c.args.block.now) (sym c.load_head-head.
 
 rest : (c : After-load_head-head) → AtRest (state_of c.load_head-head.result c.args.block.now)
 rest c =
-    let r = reads (goal.at.After-load_head-head c).In_ok-event in
-    subst (λ (h : Head). AtRest (state_of h c.args.block.now)) (sym c.load_head-head.ensures) (begun-of c.args.block.now r.wholly c.args.asked.instant.0 r.early).rest
+    subst (λ (h : Head). AtRest (state_of h c.args.block.now)) (sym c.load_head-head.ensures) (rest-of c.args.block.now (reads (goal.at.After-load_head-head c).In_ok-event).wholly)
 
 pub returns-in_err-event-clause-refused : goal.returns-in_err-event-clause-refused
 returns-in_err-event-clause-refused c =

@@ -1,5 +1,5 @@
 -- `send_link` meets its contract.
-use Rattle.std.proofs.Common.{◌≡◌, ℕ, List, ◌+◌, ◌<◌, ◌≤◌, length, sym, refl, ap, ◌∙◌, rules, arith, Bool, ◌++◌, get_or, length-append, ltb, min}
+use Rattle.std.proofs.Common.{◌≡◌, ℕ, List, ◌+◌, ◌<◌, ◌≤◌, length, sym, ap, ◌∙◌, rules, arith, Bool, ◌++◌, get_or, length-append, ltb, min}
 use lib.ListN.{length-map}
 use Rattle.std.specs.Slice.Iter.{chunks_rest, chunks_size}
 use Rattle.protocol.specs.State.{State}
@@ -18,7 +18,7 @@ use Rattle.block.proofs.ViewLaws.{links-few}
 use Rattle.announcements.specs.QueuedRows.{held_then, ihave_of, ihaves_at}
 use Rattle.announcements.proofs.OnDispatchLaws.QueueLaws.{queued-few}
 use Rattle.announcements.proofs.OnDispatchLaws.RowLaws.{piece-first, piece-rest, piece-rows, rest-rows, later-than}
-use Rattle.announcements.proofs.OnDispatchLaws.SendLaws.{link_start, link-room, link-next, link-written, link-flag}
+use Rattle.announcements.proofs.OnDispatchLaws.SendLaws.{link_start, link-next, link-written, link-flag}
 use Rattle.announcements.proofs.on_dispatch_timer.sends.send_link.Goals as goal
 use Rattle.announcements.proofs.on_dispatch_timer.sends.send_link.Given.{Over}
 use Rattle.announcements.proofs.on_dispatch_timer.sends.send_link.Goals.{Start, After-link-peer, In-Some, In-None}
@@ -99,14 +99,6 @@ module _ (g : Over) (c : In-Some g) where
 
 pub invariant_of-message : goal.invariant_of-message
 invariant_of-message g c = record { queued = piece-rows (shown c.args.view.now).queue _ _ _ _ (parts g (goal.at.invariant_of-message g c).In-Some) (size g (goal.at.invariant_of-message g c).In-Some) c.loop-rows.invariant.3 }
-
-pub send_ihave-flag-requires-clause-room : goal.send_ihave-flag-requires-clause-room
-send_ihave-flag-requires-clause-room g c =
-    let n = (goal.at.send_ihave-flag-requires-clause-room g c).In-Some in
-    let s = shown c.args.view.now in
-    let held = held_then c.args.call.now.instant.0 s in
-    rw (peer-is g ((goal.at.In-Some g n).After-link-peer), piece-first s.queue (k g n) _ _ _ (parts g n) (size g n))
-    (link-room c.loop-rows.invariant.5 (taken g n) (some g n) (one g n) (taken-is g n) c.requires.room)
 
 pub loop-rows-preserved : goal.loop-rows-preserved
 loop-rows-preserved g c =

@@ -6,4 +6,4 @@ use Rattle.block.specs.View.{state_of}
 use Rattle.whole.proofs.tables.Tables.links_whole.Given as goal
 
 abbrev pub invariant-loop-i : goal.invariant-loop-i
-invariant-loop-i l = (0 < l.i) × AscendTo (keys (state_of l.head l.block).links) l.i
+invariant-loop-i l = (0 < l.i) × AscendTo (keys (state_of l.self.head.now l.self.block.now).links) l.i

@@ -3,5 +3,5 @@ use Rattle.std.proofs.Common.{◌∙◌, eq-eqb}
 use Rattle.whole.proofs.RecordLaws.{record-none}
 use Rattle.whole.proofs.tables.Tables.record_whole.Goals as goal
 
-pub returns-then-head-eq0 : goal.returns-then-head-eq0
-returns-then-head-eq0 c = eq-eqb _ _ c.if-head-eq0.true ∙ record-none c.args.self.now.head.now c.args.self.now.block.now c.if-head-eq0.true
+pub returns-then-self-eq0 : goal.returns-then-self-eq0
+returns-then-self-eq0 c = eq-eqb _ _ c.if-self-eq0.true ∙ record-none c.args.self.now.head.now c.args.self.now.block.now c.if-self-eq0.true

@@ -108,12 +108,6 @@ copy_after at n bs out name h e = (λ i. written (one i) (two i) name)
           | inl some ↦ drop_of_length-le (drop at out) (omega (arith, e, room, some)) ∙ sym (drop_of_length-le (drop at out) (omega (arith, some)))
         ]
 
-pub four_after : (a b c d : List ℕ) (h : Intake) → after d (after c (after b (after a h))) ≡ after (a ++ b ++ c ++ d) h
-four_after a b c d h =
-    ap (λ (x : Intake). after d (after c x)) (after_append a b h)
-    ∙ ap (after d) (after_append (a ++ b) c h)
-    ∙ after_append (a ++ b ++ c) d h
-
 pub counted_is : (n : ℕ) (bs : List ℕ) → n < 2 ^ 64 → length bs < 2 ^ 64 → counted (2 ^ 64 - 1 - n) ≡ after bs (counted (2 ^ 64 - 1)) → n ≡ length bs
 unfolding after
 counted_is n bs u h e = omega (arith, k, u, h)

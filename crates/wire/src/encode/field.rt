@@ -1,5 +1,5 @@
 // The fields that messages, timers and actions are made of.
-#![tactic(auto, unfolding(postcard::specs::Message::content_bytes, postcard::specs::Message::delivery_bytes, postcard::specs::Message::optional_id_bytes, postcard::specs::Message::timer_bytes), using(crate::proofs::EncodeLaws::IntakeLaws::after_append, crate::proofs::EncodeLaws::IdLaws::id_words))]
+#![tactic(auto, unfolding(postcard::specs::Message::content_bytes, postcard::specs::Message::delivery_bytes, postcard::specs::Message::optional_id_bytes, postcard::specs::Message::timer_bytes), using(crate::proofs::EncodeLaws::IntakeLaws::after_append))]
 
 ghost use Rattle.std.specs.Prelude.{◌≡◌, [], ◌∷◌, ◌++◌, List, ℕ};
 ghost use Rattle.storage.specs.Rows.Ident.{id_of};
@@ -11,7 +11,9 @@ use crate::encode::Encode;
 use crate::encode::sink::Sink;
 use postcard::message::{Delivery, Timer};
 use postcard::units::Round;
+use storage::rows::id;
 use storage::rows::id::Id;
+use storage::tables::Row;
 
 // A number of 16 or 64 bits: "Groups of seven bits, low first, high bit on all but the last".
 impl Encode for u64 {
@@ -41,10 +43,9 @@ impl Encode for Id {
     ghost bytes = { λ i. id_bytes (id_of i) };
 
     fn encode<S: Sink>(&self, out: &mut S) {
-        out.bytes(&self.w0.to_be_bytes());
-        out.bytes(&self.w1.to_be_bytes());
-        out.bytes(&self.w2.to_be_bytes());
-        out.bytes(&self.w3.to_be_bytes());
+        let mut bytes = [0; Id::WIDTH];
+        id::store_id(&mut bytes, 0, *self);
+        out.bytes(&bytes);
     }
 }
 

@@ -1,15 +1,15 @@
-use Rattle.std.proofs.Common.{◌∙◌, ap, List, ℕ, rules}
+use Rattle.std.proofs.Common.{◌≡◌, ◌∙◌, ap, sym, List, ℕ}
+use Rattle.storage.specs.Rows.Digits.{be_bytes}
+use Rattle.storage.specs.Rows.Ident.{id_of}
+use Rattle.storage.proofs.RowsLaws.Parts.{put_all}
+use Rattle.storage.proofs.RowsLaws.Digits.{length-be_bytes}
+use Rattle.postcard.specs.Number.{id_bytes}
+use Rattle.postcard.proofs.Lengths.{id-bytes}
 use Rattle.wire.specs.Encode.Intake.{after}
-use Rattle.wire.proofs.EncodeLaws.IntakeLaws.{four_after}
-use Rattle.wire.proofs.EncodeLaws.IdLaws.{id_words}
 use Rattle.wire.proofs.encode.field.IdEncode.encode.Goals as goal
 
 pub returns : goal.returns
 returns g c =
-    let h = g.S.Sink.intake c.args.out.now in
-    c.bytes-4.ensures
-    ∙ ap (after c.to_be_bytes-4.result) (c.bytes-3.ensures
-    ∙ ap (after c.to_be_bytes-3.result) (c.bytes-2.ensures
-    ∙ ap (after c.to_be_bytes-2.result) c.bytes.ensures))
-    ∙ four_after c.to_be_bytes.result c.to_be_bytes-2.result c.to_be_bytes-3.result c.to_be_bytes-4.result h
-    ∙ ap (λ (x : List ℕ). after x h) (rw (c.to_be_bytes.ensures, c.to_be_bytes-2.ensures, c.to_be_bytes-3.ensures, c.to_be_bytes-4.ensures) (id_words c.args.self.now.w0 c.args.self.now.w1 c.args.self.now.w2 c.args.self.now.w3 (search rules) (search rules) (search rules)))
+    let n = id_of c.args.self.now in
+    let e : c.store_id.new.b ≡ id_bytes n = c.store_id.ensures ∙ put_all (be_bytes 32 n) _ (length-be_bytes 32 n) ∙ sym (id-bytes n) in
+    c.bytes.ensures ∙ ap (λ (x : List ℕ). after x (g.S.Sink.intake c.args.out.now)) e

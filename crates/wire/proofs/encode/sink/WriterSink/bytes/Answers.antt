@@ -1,25 +1,16 @@
--- `Writer::bytes`: as many as fit are put at the place.
+-- `Writer::bytes`: all are put at the place, where they fit.
 use Rattle.std.proofs.Common.{◌≡◌, ◌+◌, ◌-◌, take, drop, length, take_all, sym, ◌∙◌, arith}
 use borrow.Rule.Slice.PartMut.{put_mid}
 use Rattle.wire.specs.Encode.Intake.{written}
 use Rattle.wire.proofs.EncodeLaws.IntakeLaws.{copy_after}
 use Rattle.wire.proofs.encode.sink.WriterSink.bytes.Goals as goal
 
-pub returns-then-bytes-room : goal.returns-then-bytes-room
-returns-then-bytes-room c =
+pub returns : goal.returns
+returns c =
     let w = c.args.self.now in
     let bs = c.args.bytes.now in
     let n = length bs in
     let k : w.at + n - w.at ≡ n = omega arith in
     let e : c.copy_from_slice.new.self ≡ take n bs = c.copy_from_slice.ensures.after ∙ sym (take_all n bs (omega arith)) in
     (λ i. written (take (w.at + n) (put_mid w.at (k i) w.out.now (e i))) (drop (w.at + n) (put_mid w.at (k i) w.out.now (e i))) w.out.ghost_name)
-    ∙ copy_after w.at n bs w.out.now w.out.ghost_name w.within (omega (arith, c.if-bytes-room.true))
-
-pub returns-else-bytes-room : goal.returns-else-bytes-room
-returns-else-bytes-room c =
-    let w = c.args.self.now in
-    let bs = c.args.bytes.now in
-    let n = length w.out.now - w.at in
-    let e : c.copy_from_slice-else-bytes-room.new.self ≡ take n bs = c.copy_from_slice-else-bytes-room.ensures.after in
-    (λ i. written (take (w.at + n) (put_mid w.at n w.out.now (e i))) (drop (w.at + n) (put_mid w.at n w.out.now (e i))) w.out.ghost_name)
-    ∙ copy_after w.at n bs w.out.now w.out.ghost_name w.within (omega (arith, c.if-bytes-room.false))
+    ∙ copy_after w.at n bs w.out.now w.out.ghost_name w.within (omega arith)

@@ -1,5 +1,6 @@
 -- A call sends only to neighbours and to the event's peer; so two room lists that agree there give the same run.
 use Rattle.std.proofs.Common.{ℕ, suc, ◌≡◌, refl, sym, subst, ◌∙◌, Bool, true, false, not, ◌&&◌, ◌||◌, List, [], ◌∷◌, ◌++◌, map, ltb, eqb, length, eqb-true, eq-eqb, if◌then◌else◌, Option, Some, None, is_some}
+use Rattle.std.proofs.Math.Bool.{or-false}
 use Rattle.storage.specs.Lists.Base.{is_empty, all, any}
 use Rattle.storage.specs.Lists.Map.{keys, lookup, has}
 use Rattle.time_cache.specs.TimeCache.{get, holds, expired_keys}
@@ -195,16 +196,12 @@ all_one : (P : ℕ → Bool) (p : ℕ) → P p ≡ true → all P (p ∷ []) ≡
 unfolding all
 all_one P p h = rw h refl
 
-or-none : (b : Bool) → (b || false) ≡ b
-or-none true = refl
-or-none false = refl
-
 -- a neighbour alone
 abbrev pub alone : State → ℕ → Bool
 alone s q = is_neighbour q s.links || false
 
 alone-all : (s : State) (ps : List ℕ) → all (λ q. is_neighbour q s.links) ps ≡ true → all (alone s) ps ≡ true
-alone-all s ps h = all-imp (λ q. is_neighbour q s.links) (alone s) (λ q k. or-none (is_neighbour q s.links) ∙ k) ps h
+alone-all s ps h = all-imp (λ q. is_neighbour q s.links) (alone s) (λ q k. or-false (is_neighbour q s.links) ∙ k) ps h
 
 module _ (b : Bool) (hash : List ℕ → ℕ) (rooms : List Room) (s : State) (x : Consistent s) where
   known_in : (g : ℕ → Bool) (id : ℕ) → all (λ h. is_neighbour h.peer s.links || g h.peer) (announcers id s) ≡ true
@@ -253,7 +250,7 @@ module _ (b : Bool) (hash : List ℕ → ℕ) (rooms : List Room) (s : State) (x
   pub dispatch-in : (now : ℕ) → Within b (alone s) (timer_actions hash rooms now DispatchLazyPush s)
   unfolding timer_actions dispatch_actions
   dispatch-in now =
-      dispatched b (alone s) (cached_in s.cache) rooms s.timers.announce _ (all-imp (λ y. is_neighbour y.peer s.links) (λ y. alone s y.peer) (λ y k. or-none (is_neighbour y.peer s.links) ∙ k) _
+      dispatched b (alone s) (cached_in s.cache) rooms s.timers.announce _ (all-imp (λ y. is_neighbour y.peer s.links) (λ y. alone s y.peer) (λ y k. or-false (is_neighbour y.peer s.links) ∙ k) _
       (near-pieces s.links (queued_peers s.queue) (per_message s.settings.max_message_size) s.queue (queued-near s.links s.queue x.core.queued)))
 
   pub announce-in : (now : ℕ) → Within b (alone s) (timer_actions hash rooms now AnnounceDropped s)

@@ -1,5 +1,6 @@
 -- The state after each event, and after a whole call (`state_after`), is that of `handle`.
 use Rattle.std.proofs.Common.{ℕ, ◌≡◌, refl, ap, ◌∙◌, Bool, true, false, not, ◌||◌, List, [], ◌∷◌, ◌++◌, ltb, eqb, length, if◌then◌else◌, Option, Some, None}
+use Rattle.std.proofs.Math.Bool.{or-false}
 use Rattle.storage.specs.Lists.Base.{is_empty, member, all, once}
 use Rattle.time_cache.specs.TimeCache.{get, holds}
 use Rattle.postcard.specs.Message.{Delivery, Swarm, Neighbors, Ihave, Message, Gossip, Prune, Graft, IHave, Timer, SendGraft, DispatchLazyPush, EvictCache, AnnounceDropped, Event, Received, Broadcast, Fired, Up, Down}
@@ -144,10 +145,6 @@ unfolding schedule_announce_dropped act
 scheduled-state r =
     if-on (λ (y : Run). y.state) (is_empty r.state.dropped || r.state.timers.announce) _ _
     ∙ announce-set r.state (is_empty r.state.dropped) r.state.timers.announce refl
-
-or-false : (b : Bool) → (b || false) ≡ b
-or-false true = refl
-or-false false = refl
 
 pub announce-state : (r : Run) → (on_announce_dropped_timer r).state ≡ announce_state r.state
 unfolding on_announce_dropped_timer announce_state move_oldest

@@ -1,5 +1,6 @@
 -- A first event's work and a copy of a message received before emit nothing; a new message is emitted.
-use Rattle.std.proofs.Common.{ℕ, ◌≡◌, refl, ◌∙◌, Bool, true, false, ◌||◌, List, [], ◌∷◌, ◌++◌, map, if◌then◌else◌}
+use Rattle.std.proofs.Common.{ℕ, ◌≡◌, refl, ◌∙◌, Bool, true, false, List, [], ◌∷◌, ◌++◌, map, if◌then◌else◌}
+use Rattle.std.proofs.Math.Bool.{or-false}
 use Rattle.storage.specs.Lists.Base.{any}
 use Rattle.postcard.specs.Message.{Delivery, Action, Emitted, Forgotten}
 use Rattle.time_cache.specs.TimeCache.{expired_keys}
@@ -12,24 +13,16 @@ use Rattle.protocol.specs.NoNeighbourPassedOver.{is_emit}
 use Rattle.storage.proofs.ListsLaws.Lists.{any_append, any-right, any-one}
 
 pub any-skip : {A : Type 0} (f : A → Bool) (xs : List A) (x : A) → f x ≡ false → any f (xs ++ (x ∷ [])) ≡ any f xs
-any-skip f xs x h = any_append f xs (x ∷ []) ∙ rw (any-one f x, h) (or-none (any f xs))
-  where
-    or-none : (b : Bool) → (b || false) ≡ b
-    or-none true = refl
-    or-none false = refl
+any-skip f xs x h = any_append f xs (x ∷ []) ∙ rw (any-one f x, h) (or-false (any f xs))
 
 -- what is told as forgotten passes no test that an action 4 does not pass
 pub any-told : (f : Action → Bool) → ((id : ℕ) → f (Forgotten id) ≡ false) → (ids : List ℕ) (xs : List Action) → any f (xs ++ map (λ id. Forgotten id) ids) ≡ any f xs
 unfolding any
-any-told f h ids xs = any_append f xs (map (λ id. Forgotten id) ids) ∙ rw (untold ids) (or-none (any f xs))
+any-told f h ids xs = any_append f xs (map (λ id. Forgotten id) ids) ∙ rw (untold ids) (or-false (any f xs))
   where
     untold : (ids : List ℕ) → any f (map (λ id. Forgotten id) ids) ≡ false
     untold [] = refl
     untold (i ∷ is) = rw (h i) (untold is)
-
-    or-none : (b : Bool) → (b || false) ≡ b
-    or-none true = refl
-    or-none false = refl
 
 -- no emit more
 abbrev pub Quiet : Run → Run → Type 0

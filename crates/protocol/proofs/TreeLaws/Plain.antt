@@ -1,6 +1,7 @@
 -- Steps that send no payload and announce nothing, and leave the queue as it is.
 -- Assumes nothing.
 use Rattle.std.proofs.Common.{ℕ, suc, ◌≡◌, refl, ap, ◌∙◌, Bool, true, false, not, ◌&&◌, ◌||◌, List, [], ◌∷◌, ◌++◌, append-nil, map, eqb, Option, Some, None}
+use Rattle.std.proofs.Math.Bool.{or-false}
 use Rattle.storage.proofs.ListsLaws.Lists.{any_append}
 use Rattle.storage.specs.Lists.Base.{is_empty, any, member}
 use Rattle.storage.proofs.ListsLaws.MapLaws.{cases}
@@ -242,13 +243,9 @@ announced-forgotten p j (id ∷ ids) = announced-forgotten p j ids
 plain-tell : (ids : List ℕ) (r : Run) → Plain r (tell_forgotten ids r)
 plain-tell ids r = record {
   payloads = λ p. payloads-append p r.actions _ ∙ rw (payloads-forgotten p ids) (append-nil (payloads_to p r.actions));
-  announced = λ p j. any_append (announcing p j) r.actions _ ∙ rw (announced-forgotten p j ids) (or-none (any (announcing p j) r.actions));
+  announced = λ p j. any_append (announcing p j) r.actions _ ∙ rw (announced-forgotten p j ids) (or-false (any (announcing p j) r.actions));
   queue = refl;
 }
-  where
-    or-none : (b : Bool) → (b || false) ≡ b
-    or-none true = refl
-    or-none false = refl
 
 pub plain-evict : (now : ℕ) (r : Run) → Plain r (on_evict_cache_timer now r)
 unfolding on_evict_cache_timer evict

@@ -1,6 +1,7 @@
 -- The two ticks and the queue: a dispatch tick announces exactly what stands queued, an AnnounceDropped tick queues what stands recorded.
 -- Assumes nothing.
 use Rattle.std.proofs.Common.{ℕ, zero, suc, ◌≤◌, ◌≡◌, refl, sym, ap, ◌∙◌, Bool, true, false, ◌&&◌, ◌||◌, List, [], ◌∷◌, ◌++◌, ltb, eqb, length, take, drop, take-append-drop, eqb-true}
+use Rattle.std.proofs.Math.Bool.{or-false}
 use Rattle.storage.specs.Lists.Base.{is_empty, any, filter, count, member}
 use Rattle.storage.proofs.ListsLaws.MapLaws.{cases, true≢, and_left, and_right}
 use Rattle.storage.proofs.ListsLaws.KeyLaws.{eqb-sym}
@@ -50,10 +51,6 @@ record Tells (p id : ℕ) (b : Bool) (r r' : Run) : Type 0 where
   payloads : (q : ℕ) → payloads_to q r'.actions ≡ payloads_to q r.actions
   announced : any (announcing p id) r'.actions ≡ (any (announcing p id) r.actions || b)
 
-or-none : (b : Bool) → (b || false) ≡ b
-or-none true = refl
-or-none false = refl
-
 and-none : (b : Bool) → (b && false) ≡ false
 and-none true = refl
 and-none false = refl
@@ -69,7 +66,7 @@ both false false b c = refl
 
 module _ (p id : ℕ) where
   tells-none : (r : Run) → Tells p id false r r
-  tells-none r = record { payloads = λ q. refl; announced = sym (or-none (any (announcing p id) r.actions)) }
+  tells-none r = record { payloads = λ q. refl; announced = sym (or-false (any (announcing p id) r.actions)) }
 
   tells-plain : {b : Bool} {r r' r'' : Run} → Tells p id b r r' → Plain r' r'' → Tells p id b r r''
   tells-plain t k = record { payloads = λ q. k.payloads q ∙ t.payloads q; announced = k.announced p id ∙ t.announced }
@@ -122,7 +119,7 @@ module _ (p id : ℕ) where
         payloads = λ q. b.payloads q ∙ a.payloads q;
         announced = b.announced ∙ ap (λ (y : Bool). y || (member p ps && pieced k ns)) a.announced ∙ cases (eqb p x)
             (λ e. rw e (rw (← eqb-true p x e) (rw (eqb_refl p) (again (any (announcing p id) r.actions) (pieced k ns) (member p ps)))))
-            (λ e. rw e (rw (eqb-sym x p ∙ e) (rw (or-none (any (announcing p id) r.actions)) refl)));
+            (λ e. rw e (rw (eqb-sym x p ∙ e) (rw (or-false (any (announcing p id) r.actions)) refl)));
       }
 
   pub dispatch-payloads : (r : Run) (q : ℕ) → payloads_to q (on_dispatch_timer r).actions ≡ payloads_to q r.actions

@@ -1,14 +1,12 @@
 -- The answer, of what the two blocks hold.
 -- Assumes nothing.
-use Rattle.std.proofs.Common.{◌≡◌, refl, ap, ◌∙◌, Bool, true, false, ◌&&◌, List, ℕ, ◌≤◌, leb-true, leb, length, if◌then◌else◌, Option, Some, None}
+use Rattle.alike.proofs.Words.{◌≡◌, refl, ap, ◌∙◌, Bool, true, false, ◌&&◌, List, ℕ, ◌≤◌, leb-true, leb, length, if◌then◌else◌, Option, Some, None, State, limits_in_range, block_need, not_whole, LinksAscend}
 use Rattle.storage.proofs.ListsLaws.MapLaws.{and_left, and_right, and_intro}
-use Rattle.protocol.specs.State.{State, limits_in_range, block_need}
 use Rattle.protocol.specs.Whole.{whole, long_enough, whole_state}
 use Rattle.protocol.proofs.Consistent.{whole-consistent}
-use Rattle.protocol.specs.Alike.{not_whole, likeness_of}
+use Rattle.protocol.specs.Alike.{likeness_of}
 use Rattle.block.specs.View.{limits_of, state_of}
 use Rattle.block.specs.Layout.{tables}
-use Rattle.block.specs.LinkSteps.{LinksAscend}
 use Rattle.block.specs.Header.{word_at, head_in}
 use Rattle.block.specs.declared.head.Head.{Head}
 use Rattle.whole.specs.Held.{has_header, has_tables, counts_within, laid_out, holds_with, held, whole_held, whole_block}

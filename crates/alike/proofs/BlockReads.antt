@@ -1,11 +1,9 @@
 -- What is read of the tables that a time cache stands in, as the state has it.
 -- Assumes nothing.
-use Rattle.std.proofs.Common.{◌≡◌, sym, ap, ◌∙◌, List, [], map, ℕ, ◌<◌, arith, length, get_or, drop}
+use Rattle.alike.proofs.Words.{◌≡◌, sym, ap, ◌∙◌, List, [], map, ℕ, ◌<◌, arith, length, get_or, drop, Entry, Timed, Cache}
 use lib.ListN.{length-map, get_or-map}
-use Rattle.storage.specs.Lists.Map.{Entry}
 use Rattle.storage.specs.Refs.Refs.{Ref, ref, places, Below}
 use Rattle.storage.proofs.RefsLaws.Places.{get_or-map-in, length-refs}
-use Rattle.time_cache.specs.TimeCache.{Timed, Cache}
 use Rattle.time_cache.specs.Tables.{ValueBytes, expiry_of, no_row, row_at, value_bytes, entry_of, cache_of, values_as, refs_at, rows_at, cache_at, read_as}
 use Rattle.time_cache.specs.Steps.{ref_at}
 use Rattle.time_cache.specs.declared.cache.TimeBoundCache.{TimeBoundCache}

@@ -1,19 +1,15 @@
 -- The notes of one peer, passed by a cursor in each of two lists, and the notes of all links.
 -- Assumes nothing.
-use Rattle.std.proofs.Common.{◌≡◌, sym, ap, ◌∙◌, Bool, true, false, ◌&&◌, List, [], ◌∷◌, ℕ, ◌+◌, ◌≤◌, ◌<◌, add-one, eqb-true, eq-eqb, leb-true, leb-false, eqb, leb, length, drop, get_or, drop_of_length-le, drop-cons}
+use Rattle.alike.proofs.Words.{◌≡◌, sym, ap, ◌∙◌, Bool, true, false, ◌&&◌, List, [], ◌∷◌, ℕ, ◌+◌, ◌≤◌, ◌<◌, add-one, eqb-true, eq-eqb, leb-true, leb-false, eqb, leb, length, drop, get_or, drop_of_length-le, drop-cons, Note, peer_at, note, notes_of, shown}
 use Rattle.storage.specs.Lists.Base.{filter}
 use Rattle.storage.proofs.ListsLaws.MapLaws.{cases, true≢}
 use Rattle.storage.proofs.ListsLaws.ListLaws.{all_append}
 use Rattle.storage.proofs.ListsLaws.Places.{at_all}
 use Rattle.storage.specs.Rows.Ident.{id_of}
-use Rattle.protocol.specs.State.{Note}
 use Rattle.protocol.specs.Push.{for_peer}
 use Rattle.protocol.specs.Alike.{same_list, same_note, same_notes}
 use Rattle.protocol.proofs.AlikeCallsLaws.Reflect.{tells-notes}
 use Rattle.protocol.proofs.AlikeCallsLaws.Stay.{list-refl, note-refl}
-use Rattle.block.specs.LinkSteps.{peer_at}
-use Rattle.block.specs.NoteSteps.{note, notes_of}
-use Rattle.block.specs.Views.{shown}
 use Rattle.block.specs.declared.panel.View.{View}
 use Rattle.block.specs.declared.note.Note.{Note as LinkNote}
 use Rattle.block.specs.declared.note.NoteTable.{NoteTable}

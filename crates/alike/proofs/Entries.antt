@@ -1,14 +1,11 @@
 -- Rows of the tables that are kept in order, and all rows of one.
 -- Assumes nothing.
-use Rattle.std.proofs.Common.{None, ◌≡◌, refl, sym, ap, ◌∙◌, subst, Bool, true, false, ◌&&◌, List, [], ℕ, ◌<◌, arith, eqb, lit<, length}
-use Rattle.storage.specs.Lists.Map.{Entry, entry}
+use Rattle.alike.proofs.Words.{None, ◌≡◌, refl, sym, ap, ◌∙◌, subst, Bool, true, false, ◌&&◌, List, [], ℕ, ◌<◌, arith, eqb, lit<, length, Entry, entry, Timed, Cache, State, Limits, Grafts, Cached, same_list, same_mark, same_hop, same_grafts, same_cached, same_unit}
 use Rattle.storage.specs.Refs.Refs.{Ref, places, Below}
-use Rattle.time_cache.specs.TimeCache.{Timed, Cache}
 use Rattle.time_cache.specs.Tables.{Lies, refs_at}
 use Rattle.time_cache.specs.declared.cache.TimeBoundCache.{TimeBoundCache}
 use Rattle.protocol.specs.Links.{eager}
-use Rattle.protocol.specs.State.{State, Limits, Grafts, Cached}
-use Rattle.protocol.specs.Alike.{same_list, same_map, same_mark, same_hop, same_grafts, same_cached, same_unit}
+use Rattle.protocol.specs.Alike.{same_map}
 use Rattle.block.specs.View.{limits_of}
 use Rattle.block.specs.declared.head.Head.{Head}
 use Rattle.block.specs.declared.panel.View.{View}

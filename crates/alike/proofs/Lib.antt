@@ -4,3 +4,4 @@ pub mod ByLink
 pub mod BlockReads
 pub mod Entries
 pub mod Answers
+pub mod Words

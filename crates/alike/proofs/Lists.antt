@@ -1,16 +1,13 @@
 -- Lists, compared by their elements.
 -- Assumes nothing.
-use Rattle.std.proofs.Common.{◌≡◌, refl, sym, ap, ◌∙◌, ◌⊎◌, inl, inr, Bool, true, false, ◌&&◌, List, [], ◌∷◌, map, ℕ, zero, suc, ◌+◌, ◌-◌, ◌≤◌, ◌<◌, zero-le, suc-le-suc, le_of_suc-le-suc, not-suc-le-zero, arith, eq-eqb, eqb-true, eqb, length, get_or}
-use Rattle.storage.specs.Lists.Map.{Map, keys}
+use Rattle.alike.proofs.Words.{◌≡◌, refl, sym, ap, ◌∙◌, ◌⊎◌, inl, inr, Bool, true, false, ◌&&◌, List, [], ◌∷◌, map, ℕ, zero, suc, ◌+◌, ◌-◌, ◌≤◌, ◌<◌, zero-le, suc-le-suc, le_of_suc-le-suc, not-suc-le-zero, arith, eq-eqb, eqb-true, eqb, length, get_or, Map, keys, Expiry, State, Hop, same_mark}
 use Rattle.storage.proofs.ListsLaws.MapLaws.{true≢, and_left, and_right, and_intro}
 use Rattle.storage.specs.Rows.Part.{part}
 use Rattle.storage.specs.Rows.Digits.{le_nat, le_bytes}
 use Rattle.storage.proofs.RowsLaws.Digits.{Bytes, le_bytes-le_nat, part_bytes}
 use Rattle.storage.proofs.RowsLaws.Parts.{length_part, get_d_part}
 use Rattle.storage.proofs.RefsLaws.Shifts.{low_or_high}
-use Rattle.time_cache.specs.TimeCache.{Expiry}
-use Rattle.protocol.specs.State.{State, Hop}
-use Rattle.protocol.specs.Alike.{same_list, same_map, same_mark, same_hop, same_expiry}
+use Rattle.protocol.specs.Alike.{same_list, same_map, same_hop, same_expiry}
 use Rattle.alike.specs.Elements.{element, same_element, hop_element, graft_element, expiry_element}
 use Rattle.alike.specs.Rows.{same_entry, SameUpTo}
 

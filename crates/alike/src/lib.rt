@@ -17,6 +17,7 @@ ghost use Rattle.alike.specs.Answer.{answered};
 
 use block::head::{Limits, Settings};
 use block::header;
+use block::layout::Layout;
 use block::note::NoteTable;
 use block::panel::View;
 use sequences::Sequence;
@@ -119,12 +120,16 @@ pub fn alike(a: &[u8], b: &[u8]) -> Option<bool>
     }
     let head_a = header::load_head(a);
     let head_b = header::load_head(b);
+    let layout_a = Layout::of(head_a.limits);
+    let layout_b = Layout::of(head_b.limits);
     let x = View {
         head: &head_a,
+        layout: &layout_a,
         block: a,
     };
     let y = View {
         head: &head_b,
+        layout: &layout_b,
         block: b,
     };
     Some(same_states(&x, &y))

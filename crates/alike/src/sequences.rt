@@ -91,9 +91,9 @@ fn item_at(of: Sequence, view: &View, j: usize) -> Item
     ensures { element_of result ≡ get_or (sequence_of of (shown view.now)) j (element 0 0 0) }
 {
     match of {
-        Sequence::ReceivedExpiry => row_item(ReceivedMessages::table(view.head), view.block, j),
-        Sequence::GraftedExpiry => row_item(GraftedMessages::table(view.head), view.block, j),
-        Sequence::CachedExpiry => row_item(MessageCache::table(view.head), view.block, j),
+        Sequence::ReceivedExpiry => row_item(ReceivedMessages::table(view), view.block, j),
+        Sequence::GraftedExpiry => row_item(GraftedMessages::table(view), view.block, j),
+        Sequence::CachedExpiry => row_item(MessageCache::table(view), view.block, j),
         Sequence::Announcers(i) => hop_item(view, view.announcer(i, j)),
         Sequence::GraftedPeers(i) => hop_item(view, view.graft(i, j)),
     }

@@ -130,9 +130,9 @@ fn same_received(x: &View, y: &View, i: usize) -> bool
     ensures { result ≡ same_row Table.Received (shown x.now) (shown y.now) i }
 {
     same_key(
-        ReceivedMessages::table(x.head),
+        ReceivedMessages::table(x),
         x.block,
-        ReceivedMessages::table(y.head),
+        ReceivedMessages::table(y),
         y.block,
         i,
     )
@@ -144,9 +144,9 @@ fn same_grafted(x: &View, y: &View, i: usize) -> bool
     ensures { result ≡ same_row Table.Grafted (shown x.now) (shown y.now) i }
 {
     same_key(
-        GraftedMessages::table(x.head),
+        GraftedMessages::table(x),
         x.block,
-        GraftedMessages::table(y.head),
+        GraftedMessages::table(y),
         y.block,
         i,
     ) && same_first(x.first_copy(i), y.first_copy(i))
@@ -160,9 +160,9 @@ fn same_cached(x: &View, y: &View, i: usize) -> bool
     ensures { result ≡ same_row Table.Cached (shown x.now) (shown y.now) i }
 {
     same_key(
-        MessageCache::table(x.head),
+        MessageCache::table(x),
         x.block,
-        MessageCache::table(y.head),
+        MessageCache::table(y),
         y.block,
         i,
     ) && x.cached_round(i).0 == y.cached_round(i).0

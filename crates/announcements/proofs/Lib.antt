@@ -5,3 +5,4 @@ pub mod OnIhaveLaws
 pub mod OnAnnounceDroppedTimerLaws
 pub mod OnDispatchLaws
 pub mod PerMessageLaws
+pub mod Words

@@ -1,38 +1,24 @@
 -- AnnounceDropped: the pass over the record, of states; what moves and what stays, as numbers and as questions; and the step.
 -- Assumes nothing.
-use Rattle.std.proofs.Common.{◌≡◌, ℕ, ◌+◌, ◌≤◌, ◌<◌, zero-le, length, get_or, set, take, drop, replicate, refl, sym, ap, ◌∙◌, arith, Bool, true, false, not, ◌||◌, ltb, List, [], ◌∷◌, ◌++◌, append_assoc, if◌then◌else◌, subst, append-nil, leb-true, lt-ltb, length-append, take-append-drop, take_all}
+use Rattle.announcements.proofs.Words.{◌≡◌, ℕ, ◌+◌, ◌≤◌, ◌<◌, zero-le, length, get_or, set, take, drop, replicate, refl, sym, ap, ◌∙◌, arith, Bool, true, false, not, ◌||◌, ltb, List, [], ◌∷◌, ◌++◌, append_assoc, if◌then◌else◌, subst, append-nil, leb-true, lt-ltb, length-append, is_empty, keys, id_of, cases, true≢, and_left, and_right, filter-append, length-filter, count-length, concat-append, holds, Action, action_bytes, State, Note, zero_counts, with_queue, with_dropped, with_dispatch_scheduled, with_announce_scheduled, Run, begin, for_peer, settled, Sizes, sized_queued, sized_recorded, announce_action, note, note_for, queue_also, drop_instead, NoteOf, record_cut, Intake, after_nil, AtRest, Allowed, sizes_value, settled-as}
+use Rattle.std.proofs.Common.{take-append-drop, take_all}
 use lib.ListN.{length-map}
-use Rattle.storage.specs.Lists.Base.{is_empty, filter, count, concat_map}
-use Rattle.storage.specs.Lists.Map.{keys}
+use Rattle.storage.specs.Lists.Base.{filter, count, concat_map}
 use Rattle.storage.specs.Rows.Part.{part, put}
-use Rattle.storage.specs.Rows.Ident.{id_of}
-use Rattle.storage.proofs.ListsLaws.MapLaws.{cases, true≢, and_left, and_right}
-use Rattle.storage.proofs.ListsLaws.ListLaws.{filter-append, length-filter, count-length, concat-append}
 use Rattle.storage.proofs.RowsLaws.Parts.{put-nil, put-put-next, part-put, length-put, get_or-put-after}
-use Rattle.time_cache.specs.TimeCache.{holds}
 use Rattle.time_cache.proofs.Orders.{up_of}
-use Rattle.postcard.specs.Message.{Action, action_bytes}
-use Rattle.protocol.specs.State.{State, Note, zero_counts, with_queue, with_dropped, with_dispatch_scheduled, with_announce_scheduled}
-use Rattle.protocol.specs.Run.{Run, begin}
-use Rattle.protocol.specs.Push.{for_peer}
 use Rattle.protocol.specs.Ticks.{oldest, younger, still_cached}
 use Rattle.protocol.specs.Whole.{fits}
-use Rattle.decide.specs.Settled.{settled}
-use Rattle.decide.specs.Sizes.{Sizes, sizes_of, sized_queued, sized_recorded}
+use Rattle.decide.specs.Sizes.{sizes_of}
 use Rattle.decide.proofs.SizesAfter.{announce_sizes}
 use Rattle.decide.specs.StateAfter.{announce_state}
 use Rattle.decide.specs.ActionsAfter.{dispatch_action, announce_actions}
-use Rattle.decide.specs.RecordGrowth.{announce_action}
 use Rattle.decide.proofs.AnnounceDropped.{announce-sizes, moved_all}
 use Rattle.decide.proofs.StateAfterLaws.{announce-state}
-use Rattle.block.specs.NoteSteps.{note, note_for, queue_also, drop_instead, NoteOf, record_cut, standing as flagged}
+use Rattle.block.specs.NoteSteps.{standing as flagged}
 use Rattle.block.specs.declared.note.Note.{Note as LinkNote}
-use Rattle.wire.specs.Encode.Intake.{Intake, after}
-use Rattle.wire.proofs.EncodeLaws.IntakeLaws.{after_nil}
-use Rattle.block.specs.Panels.{AtRest, Allowed}
-use Rattle.steps.specs.Shared.{sizes_value}
+use Rattle.wire.specs.Encode.Intake.{after}
 use Rattle.steps.specs.declared.Sizes.{Sizes as CodeSizes}
-use Rattle.steps.proofs.AtRestLaws.{settled-as}
 use Rattle.announcements.specs.Announce.Moves.{moved_state}
 use Rattle.announcements.specs.OnAnnounceDroppedTimer.{announce_bytes, queue_stands, record_stands}
 use Rattle.announcements.proofs.AnnounceLaws.Turns.{standing, standing-few, oldest-within, younger-few, stands, stands-not, Counts, counts_start, Read, seen_few, gone, counted, moves, moves-alone, stays, stays-alone}

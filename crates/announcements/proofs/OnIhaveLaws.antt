@@ -1,36 +1,23 @@
 -- An IHave from the neighbour of a link: one announcement, all of them, and what they add and schedule.
 -- Assumes nothing.
-use Rattle.std.proofs.Common.{◌≡◌, ℕ, ◌+◌, ◌≤◌, ◌<◌, length, get_or, take, drop, refl, sym, ap, ◌∙◌, arith, Bool, true, false, not, ◌&&◌, List, [], ◌∷◌, ◌++◌, map, append_assoc, if◌then◌else◌, subst, append-nil, length-take, take-append-drop, add-zero, take_all}
+use Rattle.announcements.proofs.Words.{◌≡◌, ℕ, ◌+◌, ◌≤◌, ◌<◌, length, get_or, take, drop, refl, sym, ap, ◌∙◌, arith, Bool, true, false, not, ◌&&◌, List, [], ◌∷◌, ◌++◌, map, append_assoc, if◌then◌else◌, subst, append-nil, length-take, add-zero, any, member, keys, has, true≢, holds, Ihave, Scheduled, SendGraft, action_bytes, Links, is_neighbour, State, Limits, zero_counts, Run, begin, fits, settled, Sizes, sized_missing, sized_timers, announced_state, peer_at, Intake, after_append, after_nil, AtRest, Allowed, sizes_value, settled-as}
+use Rattle.std.proofs.Common.{take-append-drop, take_all}
 use lib.ListN.{length-map}
 use mir.Val.{bool_byte}
-use Rattle.storage.specs.Lists.Base.{any, member, concat_map}
-use Rattle.storage.specs.Lists.Map.{keys, has}
-use Rattle.storage.proofs.ListsLaws.MapLaws.{true≢}
-use Rattle.time_cache.specs.TimeCache.{holds}
-use Rattle.postcard.specs.Message.{Ihave, Scheduled, SendGraft, action_bytes}
-use Rattle.protocol.specs.Links.{Links, is_neighbour}
-use Rattle.protocol.specs.State.{State, Limits, zero_counts}
-use Rattle.protocol.specs.Run.{Run, begin}
-use Rattle.protocol.specs.Whole.{fits}
-use Rattle.decide.specs.Settled.{settled}
-use Rattle.decide.specs.Sizes.{Sizes, sizes_of, sized_missing, sized_timers}
+use Rattle.storage.specs.Lists.Base.{concat_map}
+use Rattle.decide.specs.Sizes.{sizes_of}
 use Rattle.decide.specs.NewIds.{new_ids, known_missing, known_timer}
 use Rattle.decide.proofs.SizesAfter.{ihave_sizes}
-use Rattle.decide.specs.StateAfter.{announced_state, ihave_state}
+use Rattle.decide.specs.StateAfter.{ihave_state}
 use Rattle.decide.specs.ActionsAfter.{ihave_actions}
 use Rattle.decide.proofs.IHave.{ihave-sizes}
 use Rattle.decide.proofs.StateAfterLaws.{ihave-state}
-use Rattle.block.specs.LinkSteps.{peer_at}
 use Rattle.block.specs.MissingSteps.{hop, announced_by, Announcing}
-use Rattle.wire.specs.Encode.Intake.{Intake, after}
-use Rattle.wire.proofs.EncodeLaws.IntakeLaws.{after_append, after_nil}
+use Rattle.wire.specs.Encode.Intake.{after}
 use Rattle.block.specs.TimerSteps.{timer_marked}
-use Rattle.block.specs.Panels.{AtRest, Allowed}
-use Rattle.steps.specs.Shared.{sizes_value}
 use Rattle.steps.specs.declared.Sizes.{Sizes as CodeSizes}
 use Rattle.block.specs.View.{state_of}
 use Rattle.block.specs.declared.head.Head.{Head}
-use Rattle.steps.proofs.AtRestLaws.{settled-as}
 use Rattle.announcements.specs.Ihaves.Heard.{ihave, announced_from, heard_from}
 use Rattle.announcements.specs.Ihaves.New.{is_for, is_old, is_new}
 use Rattle.announcements.proofs.IhavesLaws.Longer.{fits-missing, fits-timers}

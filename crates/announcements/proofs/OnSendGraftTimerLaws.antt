@@ -1,33 +1,29 @@
 -- SendGraft: what is left once the mark is gone, and what asking the first announcer leaves and sends.
 -- Assumes nothing.
-use Rattle.std.proofs.Common.{◌≡◌, ℕ, suc, ◌+◌, ◌-◌, ◌*◌, ◌^◌, ◌≤◌, ◌<◌, length, get_or, drop, refl, sym, ap, ◌∙◌, arith, Bool, true, false, List, [], ◌∷◌, ◌++◌, append_assoc, add-one, if◌then◌else◌, subst, Some, None, Option, is_some, leb-true, ne_eqb, leb, ltb, eqb}
+use Rattle.announcements.proofs.Words.{◌≡◌, ℕ, suc, ◌+◌, ◌-◌, ◌*◌, ◌^◌, ◌≤◌, ◌<◌, length, get_or, drop, refl, sym, ap, ◌∙◌, arith, Bool, true, false, List, [], ◌∷◌, ◌++◌, append_assoc, add-one, if◌then◌else◌, subst, Some, None, Option, is_some, leb-true, ne_eqb, leb, ltb, eqb, is_empty, ascending, Map, Entry, keys, lookup, insert, remove, remove_key, id_of, true≢, and_left, and_right, length-filter, count-length, concat-append, concat-one, Timed, Expiry, Cache, holds, Action, Sent, Scheduled, Graft, SendGraft, message_bytes, taken_byte, eager, mark_if_there, State, Hop, Grafts, Settings, zero_counts, with_links, with_missing, with_grafted, with_init, with_received, with_cache, Run, begin, announcers_whole, Sizes, sized_timers, sized_missing, sized_grafted, sized_grafted_expiry, peer_at, link_at, linked, rooms_of, AtRest, EntryIs, sizes_value, settled-as, settled-up, settled-low, in_order, same_keys, link-key, kth-link}
 use Rattle.std.specs.Prelude.{Option as Option'}
 use Rattle.std.specs.Option as std
 use lib.ListN.{length-map}
 use mir.Val.{bool_byte}
-use Rattle.storage.specs.Lists.Base.{is_empty, ascending, member, concat_map}
-use Rattle.storage.specs.Lists.Map.{Map, Entry, entry, keys, lookup, insert, remove, remove_key}
-use Rattle.storage.specs.Rows.Ident.{id_of}
+use Rattle.storage.specs.Lists.Base.{member, concat_map}
+use Rattle.storage.specs.Lists.Map.{entry}
 use Rattle.storage.specs.declared.rows.id.Id.{Id}
-use Rattle.storage.proofs.ListsLaws.MapLaws.{true≢, and_left, and_right}
 use Rattle.storage.proofs.ListsLaws.Places.{all-at}
-use Rattle.storage.proofs.ListsLaws.ListLaws.{length-filter, count-length, concat-append, concat-one}
-use Rattle.time_cache.specs.TimeCache.{Timed, Expiry, Cache, value_of, get, holds, later_cache}
+use Rattle.time_cache.specs.TimeCache.{value_of, get, later_cache}
 use Rattle.postcard.specs.Number.{number_bytes}
-use Rattle.postcard.specs.Message.{Action, Sent, Scheduled, Graft, SendGraft, action_bytes, message_bytes, taken_byte}
+use Rattle.postcard.specs.Message.{action_bytes}
 use Rattle.postcard.specs.Output.{send_head}
-use Rattle.protocol.specs.Links.{eager, mark_if_there, add_eager}
-use Rattle.protocol.specs.State.{State, Hop, Grafts, Settings, durations_in_range, zero_counts, with_links, with_missing, with_grafted, with_init, with_received, with_cache}
-use Rattle.protocol.specs.Run.{Run, begin}
+use Rattle.protocol.specs.Links.{add_eager}
+use Rattle.protocol.specs.State.{durations_in_range}
 use Rattle.protocol.specs.Gossips.{announcers}
 use Rattle.protocol.specs.Control.{with_graft}
-use Rattle.protocol.specs.Whole.{cache_fits, fits, announcers_whole}
+use Rattle.protocol.specs.Whole.{cache_fits, fits}
 use Rattle.protocol.specs.declared.TheConstants.{LATEST}
 use Rattle.protocol.proofs.ConsistentSteps.{core-timers}
 use Rattle.protocol.proofs.ConsistentTables.{ascending-remove_key, wider-mark, wider-grafts, to-announcers}
 use Rattle.decide.specs.Rooms.{kth_taken, first_send}
 use Rattle.decide.specs.Settled.{settled}
-use Rattle.decide.specs.Sizes.{Sizes, sizes_of, sized_timers, sized_missing, sized_grafted, sized_grafted_expiry, grown, shrunk}
+use Rattle.decide.specs.Sizes.{sizes_of, grown, shrunk}
 use Rattle.decide.proofs.SizesAfter.{unmarked_sizes, ask_sizes, send_graft_sizes}
 use Rattle.decide.specs.StateAfter.{asked_state, send_graft_state}
 use Rattle.decide.specs.ActionsAfter.{ask_actions, send_graft_actions}
@@ -35,23 +31,16 @@ use Rattle.decide.proofs.TableSizes.{length-remove_key}
 use Rattle.decide.proofs.GraftSendGraft.{send_graft-sizes}
 use Rattle.decide.proofs.StateAfterLaws.{send_graft-state}
 use Rattle.block.specs.View.{state_of}
-use Rattle.block.specs.LinkSteps.{peer_at, link_at, linked}
 use Rattle.block.specs.MissingSteps.{hop, missed_at, hops_at, left_after}
 use Rattle.block.specs.TimerSteps.{timer_out}
 use Rattle.block.specs.declared.head.Head.{Head}
 use Rattle.block.specs.declared.hops.Hop.{Hop as LinkHop}
 use Rattle.block.specs.Caches.InBlock.{AtMost}
 use Rattle.steps.specs.Asked.{grafted_until, Graftable}
-use Rattle.steps.specs.Calls.{rooms_of}
 use Rattle.block.specs.Found.{MissingAt, HopOf}
-use Rattle.block.specs.Panels.{AtRest}
-use Rattle.steps.specs.Shared.{EntryIs, sizes_value}
 use Rattle.steps.specs.declared.call.Call.{Call}
 use Rattle.steps.specs.declared.Sizes.{Sizes as CodeSizes}
-use Rattle.steps.proofs.AtRestLaws.{settled-as, settled-up, settled-low, in_order}
 use Rattle.steps.proofs.EvictStepLaws.{rest-settled}
-use Rattle.block.proofs.PanelLaws.{same_keys, link-key}
-use Rattle.steps.proofs.RoomsLaws.{kth-link}
 use Rattle.steps.proofs.TakeInLaws.{byte-small}
 use Rattle.announcements.specs.SendGraft.Asks.{asked_first, missing_left}
 use Rattle.announcements.specs.OnSendGraftTimer.{send_graft_bytes}

@@ -1,10 +1,9 @@
 -- How many identifiers an IHave takes.
 -- Assumes nothing.
-use Rattle.std.proofs.Common.{ℕ, ◌≤◌, arith, leb-true, leb}
-use Rattle.protocol.specs.State.{State, size_in_range}
+use Rattle.announcements.proofs.Words.{ℕ, ◌≤◌, arith, leb-true, leb, State, and_left, and_right}
+use Rattle.protocol.specs.State.{size_in_range}
 use Rattle.protocol.specs.Consistent.{Ranged}
 use Rattle.protocol.specs.Ticks.{per_message}
-use Rattle.storage.proofs.ListsLaws.MapLaws.{and_left, and_right}
 
 pub size_low : (s : State) → Ranged s → 510 ≤ s.settings.max_message_size
 unfolding size_in_range

@@ -1,10 +1,7 @@
 -- The record cut to its first entries.
 -- Assumes nothing.
-use Rattle.std.proofs.Common.{◌≡◌, refl, sym, ap, ◌∙◌, List, [], ◌∷◌, ℕ, zero, suc, ◌+◌, ◌≤◌, ◌<◌, arith, lit<, length, take, get_or, get_or-take, length-take-le, take-take}
-use Rattle.storage.specs.Rows.Rows.{rows}
-use Rattle.storage.proofs.RowsLaws.Rows.{take-rows}
-use Rattle.storage.specs.Refs.Refs.{Below}
-use Rattle.protocol.specs.State.{Limits, Note, with_dropped}
+use Rattle.block.proofs.Words.{◌≡◌, refl, sym, ap, ◌∙◌, List, [], ◌∷◌, ℕ, zero, suc, ◌+◌, ◌≤◌, ◌<◌, arith, lit<, length, take, get_or, take-take, rows, take-rows, Below, Limits, Note, with_dropped}
+use Rattle.std.proofs.Common.{get_or-take, length-take-le}
 use Rattle.block.specs.Layout.{tables, table}
 use Rattle.block.specs.View.{state_of, limits_of, note_of, notes_in, peers_in}
 use Rattle.storage.specs.Refs.Numbers.{pairs, numbered}

@@ -1,16 +1,10 @@
 -- What a look-up in the links, the missing and the grafted messages answers.
 -- Assumes nothing.
-use Rattle.std.proofs.Common.{◌≡◌, ℕ, refl, ap, arith, true, [], eqb, Result, Ok, Err, Option, Some, None}
+use Rattle.block.proofs.Words.{◌≡◌, ℕ, refl, ap, arith, true, [], eqb, Result, Ok, Err, Option, Some, None, ascending, entry, keys, FoundIs, up_of, lookup-here, lookup-between, State}
 use Rattle.std.specs.Result.{result_ok}
 use Rattle.std.specs.Option.{option_eq}
 use Rattle.storage.proofs.ListsLaws.KeyLaws.{eqb-sym}
 use lib.ListN.{length-map}
-use Rattle.storage.specs.Lists.Base.{ascending}
-use Rattle.storage.specs.Lists.Map.{entry, keys}
-use Rattle.storage.specs.Rows.Sorted.{FoundIs}
-use Rattle.time_cache.proofs.Orders.{up_of}
-use Rattle.time_cache.proofs.MapPlaces.{lookup-here, lookup-between}
-use Rattle.protocol.specs.State.{State}
 use Rattle.protocol.specs.Gossips.{hops_of, announcers, same_as}
 use Rattle.block.proofs.AnnounceLaws.{key_here}
 use Rattle.block.proofs.LinkLaws.{neighbour-between}

@@ -1,13 +1,9 @@
 -- What the place of a key says of the set, or of the map: whether it is there.
 -- Assumes nothing.
-use Rattle.std.proofs.Common.{◌≡◌, refl, sym, ap, true, false, is_some, Result, Ok, Err, List, [], ◌∷◌, ℕ, zero, suc, ◌<◌, zero-le, suc-le-suc, not-suc-le-zero, arith, eq-eqb, ne_eqb, ltb-true, ltb-false, ltb, eqb, length, get_or}
+use Rattle.block.proofs.Words.{◌≡◌, refl, sym, ap, true, false, Result, Ok, Err, List, [], ◌∷◌, ℕ, zero, suc, ◌<◌, zero-le, suc-le-suc, not-suc-le-zero, arith, eq-eqb, ne_eqb, ltb-true, ltb-false, ltb, eqb, length, get_or, ascending, Map, entry, keys, has, cases, Here, Between, FoundIs, up_of, lookup-here, lookup-between}
+use Rattle.std.proofs.Common.{is_some}
 use Rattle.std.specs.Result.{is_ok}
-use Rattle.storage.specs.Lists.Base.{member, ascending}
-use Rattle.storage.specs.Lists.Map.{Map, entry, keys, has}
-use Rattle.storage.proofs.ListsLaws.MapLaws.{cases}
-use Rattle.storage.specs.Rows.Sorted.{Here, Between, FoundIs}
-use Rattle.time_cache.proofs.Orders.{up_of}
-use Rattle.time_cache.proofs.MapPlaces.{lookup-here, lookup-between}
+use Rattle.storage.specs.Lists.Base.{member}
 
 at-member : (k i : ℕ) (ks : List ℕ) → i < length ks → get_or ks i 0 ≡ k → member k ks ≡ true
 unfolding member

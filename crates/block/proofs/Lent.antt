@@ -1,11 +1,8 @@
 -- A table of the block that is lent: the bytes from its start to the next one's.
 -- Assumes nothing.
-use Rattle.std.proofs.Common.{◌≡◌, sym, ap, ◌∙◌, List, ℕ, ◌+◌, ◌-◌, ◌≤◌, ◌<◌, arith, length, take, drop, get_or, set}
+use Rattle.block.proofs.Words.{◌≡◌, sym, ap, ◌∙◌, List, ℕ, ◌+◌, ◌-◌, ◌≤◌, ◌<◌, arith, length, take, drop, get_or, set, Range, put, loan-put, put_all, length-put, Limits}
 use borrow.Rule.Slice.PartMut.{put_mid}
-use Rattle.std.specs.declared.ops.Range.{Range}
-use Rattle.storage.specs.Rows.Part.{part, put}
-use Rattle.storage.proofs.RowsLaws.Parts.{loan-put, put_all, length-put}
-use Rattle.protocol.specs.State.{Limits}
+use Rattle.storage.specs.Rows.Part.{part}
 use Rattle.block.specs.Cut.{total}
 use Rattle.block.specs.Layout.{sizes, place, span, tables, table}
 use Rattle.block.proofs.Cut.{cut-part, within}

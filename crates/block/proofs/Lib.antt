@@ -1,9 +1,10 @@
--- Laws on plain values. Cut, Tables: pieces of a list, and the frame of a put in one table. HeaderLaws: the header.
+-- Laws on plain values. Cut, Tables: pieces of a list, and the frame of a put in one table. LayoutLaws: where each table starts. HeaderLaws: the header.
 -- Scans, LinkLaws, ViewLaws, PanelLaws, FoundLaws: the links, and what is found in tables. NoteLaws, NoteRowLaws, CutLaws: queue and record. RowLaws, KeyPlaces, KeyMembers, Each: a row more or less in a table.
 -- TimerLaws: graft timers. HopLaws, MissingLaws, AnnounceLaws, Few: missing messages and their announcers.
 -- CachesLaws, LookupLaws: the time caches. GraftsLaws: grafts. ContentsLaws: the contents of cached messages. NeighboursLaws: a link more or less, and the link numbers of all tables.
 pub mod Cut
 pub mod Tables
+pub mod LayoutLaws
 pub mod HeaderLaws
 pub mod Scans
 pub mod LinkLaws
@@ -28,3 +29,4 @@ pub mod GraftsLaws
 pub mod ContentsLaws
 pub mod NeighboursLaws
 pub mod Lent
+pub mod Words

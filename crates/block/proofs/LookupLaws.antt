@@ -1,17 +1,11 @@
 -- What a look-up in the message cache finds.
 -- Assumes nothing.
-use Rattle.std.proofs.Common.{◌≡◌, ℕ, ap, ◌∙◌, sym, refl, List, [], Bool, true, false, not, Some, None}
-use Rattle.storage.specs.Lists.Map.{Entry, entry, keys}
+use Rattle.block.proofs.Words.{◌≡◌, ℕ, ap, ◌∙◌, sym, refl, List, [], Bool, true, false, not, Some, None, Entry, entry, keys, true≢, Here, Between, Timed, lookup-here, lookup-between, up_of, State, Cached}
 use Rattle.std.specs.Prelude.{Option as Option'}
 use Rattle.std.specs.Option.{is_some}
-use Rattle.storage.proofs.ListsLaws.MapLaws.{true≢}
 use Rattle.block.specs.Caches.CachedReads.{cached_value, cached_at}
 use Rattle.block.specs.declared.caches.cached.CachedMessage.{CachedMessage}
-use Rattle.storage.specs.Rows.Sorted.{Here, Between}
-use Rattle.time_cache.specs.TimeCache.{Timed, value_of, get}
-use Rattle.time_cache.proofs.MapPlaces.{lookup-here, lookup-between}
-use Rattle.time_cache.proofs.Orders.{up_of}
-use Rattle.protocol.specs.State.{State, Cached}
+use Rattle.time_cache.specs.TimeCache.{value_of, get}
 use Rattle.block.specs.Caches.InBlock.{InOrder}
 
 abbrev nothing : Entry (Timed Cached)

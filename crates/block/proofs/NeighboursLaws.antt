@@ -2,7 +2,7 @@
 -- RaisedLaws: they stand for the same peers. UpLaws, RaiseSteps: in the whole block. LinkIn: the row of the link.
 -- LoweredLaws: what is read from link numbers with rows beside them. LoweredRefs: from those that are left after a link went. LoweredRows: lists of
 -- them, and rows with lists. LoweredTables: notes, missing and grafted messages. LowerSteps: in the whole block. LinkOut: the row of the link.
--- Strangers: a peer that is no neighbour. Spans: where the tables with a list in each row stand.
+-- Strangers: a peer that is no neighbour.
 pub mod RaisedRows
 pub mod RaisedLaws
 pub mod UpLaws
@@ -15,4 +15,3 @@ pub mod LoweredTables
 pub mod LowerSteps
 pub mod LinkOut
 pub mod Strangers
-pub mod Spans

@@ -1,10 +1,8 @@
 -- The columns of link numbers of the queue and the record.
 -- Assumes nothing.
-use Rattle.std.proofs.Common.{zero, suc, ◌≡◌, ℕ, ◌+◌, ◌-◌, ◌<◌, ◌≤◌, length, sym, arith, List, ◌∙◌, ap, map, get_or, take, drop, [], ◌∷◌, refl}
+use Rattle.block.proofs.Words.{zero, suc, ◌≡◌, ℕ, ◌+◌, ◌-◌, ◌<◌, ◌≤◌, length, sym, arith, List, ◌∙◌, ap, map, get_or, take, drop, [], ◌∷◌, refl, get_or-map, Note}
 use Rattle.std.proofs.lemmas.List.{ext_get_or, length-map, get_or-take, get_or-drop, length-take-le, length-drop}
-use lib.ListN.{get_or-map}
 use Rattle.std.proofs.lemmas.List.Elements.{All-from_get_or}
-use Rattle.protocol.specs.State.{Note}
 use Rattle.block.specs.Layout.{place}
 use Rattle.block.specs.LinkSteps.{peer_at}
 use Rattle.block.specs.NoteSteps.{note, notes_of, count_of, numbers_of, LinkIs, Column}

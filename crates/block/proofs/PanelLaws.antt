@@ -1,18 +1,8 @@
 -- What a panel's state says of its header, a panel that is read, and a link that gets another mark.
 -- Assumes nothing.
-use Rattle.std.proofs.Common.{◌≡◌, ℕ, ◌<◌, length, arith, List, [], ◌∷◌, refl, sym, ap, ◌∙◌, true, not, ◌&&◌}
-use lib.ListN.{get_or-map, length-map}
-use lib.Seq.{set-get_or}
-use Rattle.storage.specs.Lists.Base.{ascending}
-use Rattle.storage.specs.Lists.Map.{Entry, entry, keys, insert}
-use Rattle.storage.specs.Rows.Sorted.{Here}
-use Rattle.storage.proofs.ListsLaws.MapLaws.{cases}
-use Rattle.storage.proofs.RowsLaws.Parts.{set-put}
-use Rattle.storage.proofs.RowsLaws.Views.{map-put}
-use Rattle.time_cache.proofs.MapPlaces.{insert-here}
-use Rattle.time_cache.proofs.Orders.{up_of}
-use Rattle.protocol.specs.Links.{Mark, eager, Links, is_neighbour, quiet_in, mark_if_there}
-use Rattle.protocol.specs.State.{State}
+use Rattle.block.proofs.Words.{◌≡◌, ℕ, ◌<◌, length, arith, List, [], ◌∷◌, refl, sym, ap, ◌∙◌, true, not, ◌&&◌, get_or-map, set-get_or, ascending, Entry, entry, keys, insert, Here, cases, set-put, map-put, insert-here, up_of, Mark, eager, Links, is_neighbour, quiet_in, State}
+use lib.ListN.{length-map}
+use Rattle.protocol.specs.Links.{mark_if_there}
 use Rattle.block.specs.LinkSteps.{link_at, peer_at}
 use Rattle.block.specs.View.{state_of}
 use Rattle.block.specs.declared.head.Head.{Head}

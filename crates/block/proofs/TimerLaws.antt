@@ -1,12 +1,10 @@
 -- The rows of graft timers: what another list of them does to the state, and a mark by where its identifier stands.
 -- Assumes nothing.
-use Rattle.std.proofs.Common.{◌≡◌, refl, sym, ap, ◌∙◌, subst, List, ℕ, ◌≤◌, ◌<◌, arith, lit<, length}
+use Rattle.block.proofs.Words.{◌≡◌, refl, sym, ap, ◌∙◌, subst, List, ℕ, ◌≤◌, ◌<◌, arith, lit<, length, Range, Here, Between, State, Limits, with_graft_timers}
 use Rattle.std.proofs.lemmas.List.Edits.{length-insert}
-use Rattle.std.specs.declared.ops.Range.{Range}
-use Rattle.storage.specs.Rows.Sorted.{Here, Between, key_of}
+use Rattle.storage.specs.Rows.Sorted.{key_of}
 use Rattle.storage.specs.Tables.Listed.{listed}
 use Rattle.storage.proofs.TablesLaws.Listed.{length-listed}
-use Rattle.protocol.specs.State.{State, Limits, with_graft_timers}
 use Rattle.block.specs.Layout.{span, table}
 use Rattle.block.specs.View.{state_of, view_of, limits_of, id_at, timers_in}
 use Rattle.block.specs.Sound.{Laid, Sound}

@@ -1,9 +1,7 @@
 -- The links, one after the other.
 -- Assumes nothing.
-use Rattle.std.proofs.Common.{◌≡◌, ℕ, suc, ◌+◌, ◌<◌, ◌≤◌, length, ap, refl, arith, get_or, List, [], ◌∷◌, drop, add-one, drop-cons}
+use Rattle.block.proofs.Words.{◌≡◌, ℕ, suc, ◌+◌, ◌<◌, ◌≤◌, length, ap, refl, arith, get_or, List, [], ◌∷◌, drop, add-one, drop-cons, entry, Links, eager}
 use Rattle.std.proofs.lemmas.List.{drop_all}
-use Rattle.storage.specs.Lists.Map.{entry}
-use Rattle.protocol.specs.Links.{Links, eager}
 use Rattle.block.specs.View.{state_of}
 use Rattle.block.specs.Sound.{Sound}
 use Rattle.block.specs.declared.head.Head.{Head}

@@ -1,11 +1,6 @@
 -- The bytes of a call: those of a first event, then those of the step, of the state that a first event leaves.
 -- Assumes nothing.
-use Rattle.std.proofs.Common.{◌≡◌, ℕ, sym, ap, ◌∙◌, List, [], ◌++◌}
-use Rattle.storage.specs.Lists.Base.{concat_map}
-use Rattle.postcard.specs.Message.{action_bytes}
-use Rattle.protocol.specs.State.{State}
-use Rattle.protocol.specs.Run.{Room}
-use Rattle.decide.specs.Settled.{settled, settled_actions}
+use Rattle.machine.proofs.Words.{◌≡◌, ℕ, sym, ap, ◌∙◌, List, [], ◌++◌, concat_map, action_bytes, State, Room, settled, settled_actions}
 use Rattle.wire.specs.Encode.Intake.{Intake, after}
 use Rattle.wire.proofs.EncodeLaws.IntakeLaws.{after_append, after_nil}
 use Rattle.steps.specs.Calls.{rooms_of}

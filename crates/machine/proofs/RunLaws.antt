@@ -1,27 +1,16 @@
 -- What the questions find, and what an accepted call leaves.
-use Rattle.std.proofs.Common.{Some, ◌≡◌, ℕ, suc, max, ◌+◌, ◌^◌, ◌≤◌, ◌<◌, refl, sym, ap, ◌∙◌, arith, Bool, true, false, ◌&&◌, List, [], length, leb, ltb, if◌then◌else◌, le-leb, leb-true, lt-ltb, le-ltb, ltb-true, ltb-false}
+use Rattle.machine.proofs.Words.{Option, Some, Err, Ok, ◌≡◌, ℕ, suc, max, ◌+◌, ◌^◌, ◌≤◌, ◌<◌, refl, sym, ap, ◌∙◌, arith, Bool, true, false, ◌&&◌, List, [], length, ltb, le-leb, leb-true, lt-ltb, le-ltb, ltb-true, ltb-false, lt-leb, cases, and_intro, identifier, Received, Up, Down, message_value, link_up, State, Counts, Settings, Limits, limits_in_range, block_need, zero_counts, Room, begin, fits, whole, counts_below, limits_of, Sound, Stored, linked, Head, AtRest, shown}
 use native.Mathlib.Nat.{max-eq_left, max-eq_right}
-use borrow.Author.Tests.{lt-leb}
+use Rattle.refusal.specs.declared.Refusal.TheVariants.{MessageTooLong, CountsFull}
 use Rattle.storage.specs.Lists.Base.{concat_map}
-use Rattle.storage.proofs.ListsLaws.MapLaws.{cases, and_intro}
-use Rattle.blake3.specs.Blake3.{identifier}
 use Rattle.postcard.specs.Message as message
-use Rattle.postcard.specs.Message.{Event, Received, Up, Down}
-use Rattle.wire.specs.Reader.Values.{message_value}
+use Rattle.postcard.specs.Message.{Event}
 use Rattle.wire.specs.declared.reader.message.Message.{Message}
 use Rattle.wire.specs.declared.reader.message.Message.TheVariants as messages
-use Rattle.protocol.specs.Links.{link_up}
-use Rattle.protocol.specs.State.{State, Counts, Settings, Limits, limits_in_range, block_need, zero_counts}
-use Rattle.protocol.specs.Run.{Room, begin}
 use Rattle.protocol.specs.Neighbours.{forget_peer, on_neighbor_down}
 use Rattle.protocol.specs.Handle.{count_message}
-use Rattle.protocol.specs.Whole.{fits, whole}
-use Rattle.protocol.specs.Answer.{counts_below, counts_stay, refused, accepted}
-use Rattle.block.specs.View.{limits_of, state_of}
-use Rattle.block.specs.Sound.{Sound}
-use Rattle.block.specs.Header.{Stored}
-use Rattle.block.specs.LinkSteps.{linked}
-use Rattle.block.specs.declared.head.Head.{Head}
+use Rattle.protocol.specs.Answer.{counts_stay}
+use Rattle.block.specs.View.{state_of}
 use Rattle.decide.specs.Sizes.{sizes_of, fit_sizes}
 use Rattle.decide.specs.Settled.{too_far_before}
 use Rattle.decide.proofs.SizesAfter.{down_sizes}
@@ -29,17 +18,19 @@ use Rattle.decide.specs.ActionsAfter.{actions_after}
 use Rattle.decide.specs.StateAfter.{state_after}
 use Rattle.decide.proofs.TableSizes.{fits-sizes}
 use Rattle.decide.proofs.UpDownEvict.{down-sizes}
-use Rattle.block.specs.Panels.{AtRest}
 use Rattle.steps.specs.Shared.{sizes_value}
-use Rattle.block.specs.Views.{shown}
 use Rattle.steps.specs.declared.Sizes.{Sizes as CodeSizes}
 use Rattle.block.specs.declared.panel.View.{View}
 use Rattle.steps.proofs.SettledLaws.FewLaws.{fit-down, rest-whole}
 use Rattle.machine.specs.Core.{is_payload, counted_as}
-use Rattle.machine.specs.Decided.{bytes_after, last_decided, size_fits, decided}
+use Rattle.machine.specs.Decided.{size_fits, unless, event_plan}
 use Rattle.decide.specs.Counted.{raised, counts_after_call}
 use Rattle.machine.specs.Kinds.Meaning.{counted_for}
+use Rattle.machine.specs.Limit.{first_limit, state_limit}
+use Rattle.machine.specs.declared.event.Stop.TheVariants.{Refused}
+use Rattle.machine.specs.declared.limit.Limit.{Limit}
 use Rattle.machine.specs.Steps.{Keeps}
+use Rattle.machine.proofs.LimitLaws.{fits-none}
 use Rattle.machine.proofs.HoldsLaws.{stored-holds}
 use Rattle.whole.specs.Held.{held}
 
@@ -66,12 +57,11 @@ max-of v = refl
 pub shown-whole : (v : View) → AtRest (shown v) → whole (shown v) ≡ true
 shown-whole v rest = rest-whole v.head.now v.block.now v.sound rest
 
--- (13) the test of the code, of a state with the same limits
-pub fitted : (v : View) (t : State) (z : CodeSizes) (b : Bool) → t.limits ≡ (shown v).limits → sizes_value z ≡ sizes_of t → b ≡ fit_sizes (limits_of v.head.now.limits) (sizes_value z) → b ≡ fits t
-fitted v t z b same e f =
-    f ∙ ap (fit_sizes (limits_of v.head.now.limits)) e
-    ∙ ap (λ (l : Limits). fit_sizes l (sizes_of t)) (sym (same ∙ limits-of v))
-    ∙ sym (fits-sizes t)
+-- (13) the limit that the code found, of a state with the same limits
+pub limited : (v : View) (t : State) (z : CodeSizes) (o : Option Limit) → t.limits ≡ (shown v).limits → sizes_value z ≡ sizes_of t → o ≡ first_limit (limits_of v.head.now.limits) (sizes_value z) → o ≡ state_limit t
+limited v t z o same e f =
+    f ∙ ap (first_limit (limits_of v.head.now.limits)) e
+    ∙ ap (λ (l : Limits). first_limit l (sizes_of t)) (sym (same ∙ limits-of v))
 
 -- a neighbour down
 pub down-keeps : (p : ℕ) (s : State) → Keeps s (forget_peer p s)
@@ -91,21 +81,14 @@ down_fits p v rest =
     ∙ ap (fit_sizes (limits_of v.head.now.limits)) (down-sized p s rest)
     ∙ fit-down p v.head.now v.block.now v.sound
 
-both : {A : Type 0} (x y z : A) (a b : Bool) → a ≡ true → b ≡ true → x ≡ (if a then if b then x else y else z)
-both x y z a b p q = rw (p, q) refl
+module _ (rooms : List Room) (now p : ℕ) (s : State) (c : Counts) where
+  pub up-planned : (as_quiet : Bool) (o : Option Limit) → o ≡ state_limit (linked (link_up as_quiet p) s) → unless o (record { state = linked (link_up as_quiet p) s; counts = c; bytes = [] }) ≡ event_plan identifier rooms now 0 (Up as_quiet p) s c
+  unfolding event_plan size_fits counts_stay too_far_before actions_after state_after counts_after_call concat_map
+  up-planned as_quiet o e = ap (λ (x : Option Limit). unless x (record { state = linked (link_up as_quiet p) s; counts = c; bytes = [] })) e
 
-module _ (rooms : List Room) (now p : ℕ) (s : State) (c : Counts) (output : ℕ) where
-  pub up-13 : (as_quiet : Bool) → fits (linked (link_up as_quiet p) s) ≡ false → refused 13 ≡ decided identifier rooms now 0 (Up as_quiet p) s c output
-  unfolding decided last_decided bytes_after size_fits counts_stay too_far_before actions_after state_after counts_after_call
-  up-13 as_quiet e = rw e refl
-
-  pub up-0 : (as_quiet : Bool) → fits (linked (link_up as_quiet p) s) ≡ true → accepted (linked (link_up as_quiet p) s) c [] ≡ decided identifier rooms now 0 (Up as_quiet p) s c output
-  unfolding decided last_decided bytes_after size_fits counts_stay too_far_before actions_after state_after counts_after_call concat_map
-  up-0 as_quiet e = both _ _ _ (fits (linked (link_up as_quiet p) s)) (leb 0 output) e (le-leb 0 output (omega arith))
-
-  pub down-0 : fits (forget_peer p s) ≡ true → accepted (forget_peer p s) c [] ≡ decided identifier rooms now 0 (Down p) s c output
-  unfolding decided last_decided bytes_after size_fits counts_stay too_far_before actions_after state_after counts_after_call concat_map
-  down-0 e = both _ _ _ (fits (forget_peer p s)) (leb 0 output) e (le-leb 0 output (omega arith))
+  pub down-planned : fits (forget_peer p s) ≡ true → Ok (record { state = forget_peer p s; counts = c; bytes = [] }) ≡ event_plan identifier rooms now 0 (Down p) s c
+  unfolding event_plan size_fits counts_stay too_far_before actions_after state_after counts_after_call concat_map
+  down-planned e = ap (λ (x : Option Limit). unless x (record { state = forget_peer p s; counts = c; bytes = [] })) (fits-none (forget_peer p s) e)
 
 -- a message's counts
 pub counted-message : (m : Message) (c : Counts) → counted_as (is_payload m) c ≡ count_message (message_value m) c
@@ -146,20 +129,20 @@ module _ (s : State) (peer size : ℕ) (m : message.Message) where
   message-long l = lt-leb size s.settings.max_message_size l
 
 -- a received message: questions 10 and 11
-module _ (rooms : List Room) (now peer size : ℕ) (m : Message) (s : State) (c : Counts) (output : ℕ) where
+module _ (rooms : List Room) (now peer size : ℕ) (m : Message) (s : State) (c : Counts) where
   abbrev event : Event
   event = Received peer (message_value m)
 
-  pub message-10 : s.settings.max_message_size < size → refused 10 ≡ decided identifier rooms now size event s c output
-  unfolding decided
+  pub message-10 : s.settings.max_message_size < size → Err (Refused MessageTooLong) ≡ event_plan identifier rooms now size event s c
+  unfolding event_plan
   message-10 l = rw (message-long s peer size (message_value m) l) refl
 
   pub message-stays : (b : Bool) → counts_below (counted_as (is_payload m) c) ≡ b → counts_stay event c ≡ b
   unfolding counts_stay
   message-stays b e = ap counts_below (sym (counted-message m c)) ∙ e
 
-  pub message-11 : size ≤ s.settings.max_message_size → counts_below (counted_as (is_payload m) c) ≡ false → refused 11 ≡ decided identifier rooms now size event s c output
-  unfolding decided
+  pub message-11 : size ≤ s.settings.max_message_size → counts_below (counted_as (is_payload m) c) ≡ false → Err (Refused CountsFull) ≡ event_plan identifier rooms now size event s c
+  unfolding event_plan
   message-11 l e = rw (message-fits s peer size (message_value m) l, message-stays false e) refl
 
 -- the block holds the state that the panel held, once its header is stored

@@ -1,32 +1,29 @@
 -- The sizes after each step, the steps that leave the state, and a step behind a first event's work.
 -- Assumes nothing.
-use Rattle.std.proofs.Common.{◌≡◌, ℕ, ◌<◌, refl, sym, ap, ◌∙◌, Bool, true, false, List, [], length, leb, if◌then◌else◌, subst, Option}
-use Rattle.std.specs.Borrow.{Bor}
+use Rattle.machine.proofs.Words.{◌≡◌, ℕ, ◌<◌, refl, sym, ap, ◌∙◌, Bool, true, false, [], length, leb, if◌then◌else◌, subst, Option, add_lazy, State, Counts, zero_counts, with_links, with_init, with_received, with_grafted, with_cache, size_in_range, durations_in_range, limits_in_range, Run, begin, late_state, peer_at}
 use Rattle.storage.specs.Rows.Ident.{id_of}
 use Rattle.storage.specs.declared.rows.id.Id.{Id}
 use Rattle.time_cache.specs.TimeCache.{later_cache}
 use Rattle.wire.specs.declared.reader.ihaves.Ihaves.{Ihaves}
-use Rattle.protocol.specs.Links.{add_lazy}
-use Rattle.protocol.specs.State.{State, Counts, zero_counts, with_links, with_init, with_received, with_grafted, with_cache, size_in_range, durations_in_range, limits_in_range}
-use Rattle.protocol.specs.Run.{Run, begin}
 use Rattle.protocol.specs.Gossips.{Late}
 use Rattle.protocol.specs.Consistent.{Consistent, Ranged}
 use Rattle.protocol.proofs.WholeKept.{kept-first_event}
 use Rattle.decide.specs.Settled.{settled}
 use Rattle.decide.specs.Sizes.{sizes_of}
-use Rattle.decide.specs.StateAfter.{late_state}
 use Rattle.decide.proofs.SettledLaws.{first-state}
 use Rattle.decide.proofs.Gossip.{late-sizes}
 use Rattle.decide.proofs.GraftSendGraft.{prune-sizes}
 use Rattle.decide.proofs.StateAfterLaws.{prune-state, late-state}
-use Rattle.block.specs.LinkSteps.{peer_at}
 use Rattle.steps.specs.Rooms.{rooms_in}
 use Rattle.steps.specs.declared.call.Rooms.{Rooms}
 use Rattle.steps.specs.declared.call.Call.{Call}
 use Rattle.steps.proofs.AtRestLaws.{settled-as, same_links}
-use Rattle.payloads.specs.OnLateGraftReply.{copy_kind}
+use Rattle.payloads.specs.OnLateGraftReply.{late_value, LateHeld}
 use Rattle.payloads.specs.declared.on_gossip.NewMessage.{NewMessage}
 use Rattle.payloads.specs.declared.on_late_graft_reply.LateCopy.{LateCopy}
+use Rattle.payloads.specs.declared.on_late_graft_reply.Late.{Late as Kind}
+use Rattle.payloads.specs.declared.on_late_graft_reply.Late.TheVariants.{Duplicate, Repeated, Faster}
+use Rattle.payloads.specs.declared.broadcast.OwnMessage.{OwnMessage}
 use Rattle.machine.specs.Kinds.Meaning.{step_state, step_far, step_counts, StepHeld}
 use Rattle.machine.specs.declared.kinds.Step.{Step}
 use Rattle.machine.specs.declared.kinds.Step.TheVariants as step
@@ -55,7 +52,7 @@ module _ (t : State) (x : Consistent t) where
       → ((m : NewMessage) → r ≡ step.NewSwarm m → ⊥)
       → ((link : ℕ) (w : Option Id) → r ≡ step.Graft link w → ⊥)
       → ((link : ℕ) (ihaves : Ihaves) → r ≡ step.IHave link ihaves → ⊥)
-      → ((id : Id) (content : Bor (List ℕ)) → r ≡ step.Broadcast id content → ⊥)
+      → ((m : OwnMessage) → r ≡ step.Broadcast m → ⊥)
       → ((id : Id) → r ≡ step.SendGraft id → ⊥)
       → (r ≡ step.DispatchLazyPush → ⊥)
       → (r ≡ step.EvictCache → ⊥)
@@ -65,11 +62,11 @@ module _ (t : State) (x : Consistent t) where
   others-sized call step.Nothing a b c d e f g h = refl
   others-sized call (step.NewSwarm m) a b c d e f g h = absurd (a m refl)
   others-sized call (step.NewNeighbors sender content) a b c d e f g h = refl
-  others-sized call (step.Late copy) a b c d e f g h = late-sized copy.sender (id_of copy.id) (copy_kind copy t)
+  others-sized call (step.Late copy) a b c d e f g h = late-sized copy.sender (id_of copy.id) (late_value t copy.kind)
   others-sized call (step.Prune link) a b c d e f g h = prune-sized (peer_at t link)
   others-sized call (step.Graft link w) a b c d e f g h = absurd (b link w refl)
   others-sized call (step.IHave link ihaves) a b c d e f g h = absurd (c link ihaves refl)
-  others-sized call (step.Broadcast id content) a b c d e f g h = absurd (d id content refl)
+  others-sized call (step.Broadcast m) a b c d e f g h = absurd (d m refl)
   others-sized call (step.SendGraft id) a b c d e f g h = absurd (e id refl)
   others-sized call step.DispatchLazyPush a b c d e f g h = absurd (f refl)
   others-sized call step.EvictCache a b c d e f g h = absurd (g refl)
@@ -82,7 +79,7 @@ pub others-still : (call : Call) (r : Step) (t : State)
     → ((link : ℕ) → r ≡ step.Prune link → ⊥)
     → ((link : ℕ) (w : Option Id) → r ≡ step.Graft link w → ⊥)
     → ((link : ℕ) (ihaves : Ihaves) → r ≡ step.IHave link ihaves → ⊥)
-    → ((id : Id) (content : Bor (List ℕ)) → r ≡ step.Broadcast id content → ⊥)
+    → ((m : OwnMessage) → r ≡ step.Broadcast m → ⊥)
     → ((id : Id) → r ≡ step.SendGraft id → ⊥)
     → (r ≡ step.DispatchLazyPush → ⊥)
     → (r ≡ step.EvictCache → ⊥)
@@ -96,7 +93,7 @@ others-still call (step.Late copy) t a b c d e f g h i j = absurd (b copy refl)
 others-still call (step.Prune link) t a b c d e f g h i j = absurd (c link refl)
 others-still call (step.Graft link w) t a b c d e f g h i j = absurd (d link w refl)
 others-still call (step.IHave link ihaves) t a b c d e f g h i j = absurd (e link ihaves refl)
-others-still call (step.Broadcast id content) t a b c d e f g h i j = absurd (f id content refl)
+others-still call (step.Broadcast m) t a b c d e f g h i j = absurd (f m refl)
 others-still call (step.SendGraft id) t a b c d e f g h i j = absurd (g id refl)
 others-still call step.DispatchLazyPush t a b c d e f g h i j = absurd (h refl)
 others-still call step.EvictCache t a b c d e f g h i j = absurd (i refl)
@@ -116,11 +113,16 @@ held_same : (s t : State) (r : Step) → length s.links ≡ length t.links → S
 held_same s t step.Nothing e a = a
 held_same s t (step.NewSwarm m) e a = a
 held_same s t (step.NewNeighbors sender content) e a = a
-held_same s t (step.Late copy) e a = a
+held_same s t (step.Late copy) e a = late-same copy.kind a
+  where
+    late-same : (k : Kind) → LateHeld s k → LateHeld t k
+    late-same (Faster first) h = subst (λ (n : ℕ). first < n) e h
+    late-same Duplicate h = h
+    late-same Repeated h = h
 held_same s t (step.Prune link) e a = subst (λ (n : ℕ). link < n) e a
 held_same s t (step.Graft link w) e a = subst (λ (n : ℕ). link < n) e a
 held_same s t (step.IHave link ihaves) e a = record { there = subst (λ (n : ℕ). link < n) e a.there; few = a.few }
-held_same s t (step.Broadcast id content) e a = a
+held_same s t (step.Broadcast m) e a = a
 held_same s t (step.SendGraft id) e a = a
 held_same s t step.DispatchLazyPush e a = a
 held_same s t step.EvictCache e a = a
@@ -142,6 +144,7 @@ due-ready call r s t due e =
       allowed = record { rest = record { consistent = settled-consistent call.instant.0 s due.allowed.rest.consistent; ranged = settled-ranged call.instant.0 s due.allowed.rest.ranged }; fits = due.allowed.fits };
       begun = settled-init call.instant.0 s;
       held = held_same s (settled call.instant.0 s) r (ap length (sym (same_links call.instant.0 s))) due.held;
+      decided = due.decided;
       near = due.near;
       early = due.early;
     })

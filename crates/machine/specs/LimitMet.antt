@@ -1,4 +1,2 @@
 pub mod LimitMet
-pub mod Decided
-pub mod Told
 pub mod Exact

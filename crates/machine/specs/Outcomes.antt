@@ -1,32 +1,35 @@
--- What a call is to do once every question is answered yes, and what the caller finds of a step: questions 12, 13 and 14, then the step. Proved equal to the definitions' outcome for the event whose
--- step it is (proofs/OutcomeLaws.antt).
+-- What a call is to do once every question is answered yes, and what a step leaves: questions 12 and 13, then the step. Proved equal to what `event_plan` says of the event whose step it is
+-- (proofs/OutcomeLaws.antt).
 -- Assumes nothing.
-use Rattle.std.specs.Prelude.{ℕ, ◌≤◌, ◌≡◌, not, List, [], leb, length, Result, Ok, Err, if◌then◌else◌}
+use Rattle.std.specs.Prelude.{ℕ, ◌≤◌, ◌≡◌, List, [], length, Result, Ok, Err, if◌then◌else◌}
 use Rattle.refusal.specs.Numbers.{number_of}
 use Rattle.refusal.specs.declared.Refusal.{Refusal}
+use Rattle.refusal.specs.declared.Refusal.TheVariants.{NoMoreHops}
 use Rattle.protocol.specs.Links.{link_up}
 use Rattle.protocol.specs.State.{State, Counts}
 use Rattle.protocol.specs.Neighbours.{forget_peer}
-use Rattle.protocol.specs.Whole.{fits}
 use Rattle.protocol.specs.Answer.{Outcome, refused, accepted}
 use Rattle.block.specs.LinkSteps.{linked}
 use Rattle.block.specs.Panels.{Allowed}
 use Rattle.steps.specs.declared.call.Call.{Call}
 use Rattle.machine.specs.Called.{counts_of}
+use Rattle.machine.specs.Decided.{Planned, unless}
+use Rattle.machine.specs.Limit.{state_limit}
 use Rattle.machine.specs.Kinds.Meaning.{step_far, step_counts, SenderIs}
 use Rattle.machine.specs.Steps.{after_event, event_bytes, Keeps, Due}
 use Rattle.machine.specs.declared.kinds.Step.{Step}
 use Rattle.machine.specs.declared.event.Task.{Task}
 use Rattle.machine.specs.declared.event.Task.TheVariants as task
+use Rattle.machine.specs.declared.event.Stop.{Stop}
+use Rattle.machine.specs.declared.event.Stop.TheVariants.{Refused}
+use Rattle.machine.specs.declared.event.Plan.{Plan}
 use Rattle.machine.specs.declared.event.Accepted.{Accepted}
 
--- (12), (13), (14), or what the step leaves; `counted` are the counts once the message is counted
-unfoldable pub step_outcome : Call → Step → State → Counts → ℕ → Outcome
-step_outcome call step s counted output =
-    if step_far step then refused 12
-    else if not (fits (after_event call step s)) then refused 13
-    else if not (leb (length (event_bytes call step s)) output) then refused 14
-    else accepted (after_event call step s) (step_counts step counted) (event_bytes call step s)
+-- (12), (13), or what the step leaves; `counted` are the counts once the message is counted
+unfoldable pub step_plan : Call → Step → State → Counts → Result Planned Stop
+step_plan call step s counted =
+    if step_far step then Err (Refused NoMoreHops)
+    else unless (state_limit (after_event call step s)) (record { state = after_event call step s; counts = step_counts step counted; bytes = event_bytes call step s })
 
 -- the state after a task; a neighbour up or down has no first event's work
 abbrev pub after_task : Call → Task → State → State
@@ -44,10 +47,20 @@ abbrev pub Doable : Call → Task → State → Type 0
 Doable call (task.Step step) s = Due call step s × SenderIs call.peer step
 Doable call t s = Allowed (after_task call t) s
 
--- what the questions have found
+-- what questions 10 to 13 have found
+abbrev pub plan_of : Call → State → Result Plan Stop → Result Planned Stop
+plan_of call s (Ok p) = Ok (record { state = after_task call p.task s; counts = counts_of p.stats; bytes = task_bytes call p.task s })
+plan_of call s (Err stop) = Err stop
+
+-- what all questions have found
 abbrev pub outcome_of : Call → State → Result Accepted Refusal → Outcome
 outcome_of call s (Ok a) = accepted (after_task call a.task s) (counts_of a.stats) (task_bytes call a.task s)
 outcome_of call s (Err r) = refused (number_of r)
+
+-- a call that may go on: its task can be done
+pub record Possible (call : Call) (s : State) (p : Plan) : Type 0 where
+  pub doable : Doable call p.task s
+  pub keeps : Keeps s (after_task call p.task s)
 
 -- a call that is accepted: its task can be done, and the output has room
 pub record Acceptable (call : Call) (s : State) (output : ℕ) (a : Accepted) : Type 0 where

@@ -1,9 +1,10 @@
 // The actions of a call: a first event's timer, then those of the step. They are counted for question 14, then written, by one walk.
 ghost use Rattle.std.specs.Prelude.{◌≡◌, false};
+ghost use Rattle.decide.specs.Settled.{settled};
 ghost use Rattle.block.specs.Panels.{AtRest};
 ghost use Rattle.block.specs.Views.{shown};
-ghost use Rattle.machine.specs.Kinds.Meaning.{StepHeld, SenderIs, step_far};
-ghost use Rattle.machine.specs.Steps.{event_bytes, AtRest-prop, StepHeld-prop, SenderIs-prop, near-prop};
+ghost use Rattle.machine.specs.Kinds.Meaning.{StepHeld, StepDecided, SenderIs, step_far};
+ghost use Rattle.machine.specs.Steps.{event_bytes, AtRest-prop, StepHeld-prop, StepDecided-prop, SenderIs-prop, near-prop};
 
 use crate::kinds::Step;
 use announcements::on_announce_dropped_timer::announce_actions;
@@ -25,15 +26,16 @@ use wire::encode::sink::Sink;
 pub struct Actions<'a> {
     pub view: &'a View<'a>,
     pub call: &'a Call<'a>,
-    pub step: Step<'a>,
+    pub step: &'a Step<'a>,
     ghost rest: { AtRest (shown view.now) } by { AtRest-prop (shown view.now) },
-    ghost held: { StepHeld (shown view.now) step } by { StepHeld-prop (shown view.now) step },
-    ghost sender: { SenderIs call.now.peer step } by { SenderIs-prop call.now.peer step },
-    ghost near: { step_far step ≡ false } by { near-prop step },
+    ghost held: { StepHeld (shown view.now) step.now } by { StepHeld-prop (shown view.now) step.now },
+    ghost decided: { StepDecided call.now step.now (settled call.now.instant.0 (shown view.now)) } by { StepDecided-prop call.now step.now (settled call.now.instant.0 (shown view.now)) },
+    ghost sender: { SenderIs call.now.peer step.now } by { SenderIs-prop call.now.peer step.now },
+    ghost near: { step_far step.now ≡ false } by { near-prop step.now },
 }
 
 impl<'a> Encode for Actions<'a> {
-    ghost bytes = { λ a. event_bytes a.call.now a.step (shown a.view.now) };
+    ghost bytes = { λ a. event_bytes a.call.now a.step.now (shown a.view.now) };
 
     fn encode<S: Sink>(&self, out: &mut S) {
         let Actions {
@@ -44,17 +46,18 @@ impl<'a> Encode for Actions<'a> {
         } = *self;
         first_event_actions(view, call, out);
         match step {
-            Step::NewSwarm(message) => gossip_actions(view, call, out, &message),
-            Step::NewNeighbors { sender, content } => neighbors_actions(out, sender, content),
-            Step::Late(copy) => late_actions(view, call, out, copy),
-            Step::Graft { link, wanted } => graft_actions(view, call, out, link, wanted),
-            Step::IHave { ihaves, .. } => ihave_actions(view, call, out, ihaves),
-            Step::Broadcast { id, content } => broadcast_actions(view, call, out, id, content),
-            Step::SendGraft(id) => send_graft_actions(view, call, out, id),
+            Step::NewSwarm(message) => gossip_actions(view, call, out, message),
+            Step::NewNeighbors { sender, content } => neighbors_actions(out, *sender, content),
+            Step::Late(copy) => late_actions(view, call, out, *copy),
+            Step::Graft { link, wanted } => graft_actions(view, call, out, *link, *wanted),
+            Step::IHave { ihaves, .. } => ihave_actions(view, call, out, *ihaves),
+            Step::Broadcast(message) => broadcast_actions(view, call, out, message),
+            Step::SendGraft(id) => send_graft_actions(view, call, out, *id),
             Step::DispatchLazyPush => dispatch_actions(view, call, out),
             Step::EvictCache => evict_actions(view, call, out),
             Step::AnnounceDropped => announce_actions(view, call, out),
-            Step::Prune { .. } | Step::Nothing => {}
+            Step::Prune { .. } => {}
+            Step::Nothing => {}
         }
     }
 }

@@ -1,4 +1,5 @@
-// What an event does once a first event's work is done: the step, with what was found out about it from the block before anything is changed.
+// What an event does once a first event's work is done: the step, with what was decided of it from the block before anything is changed. Sizes, actions and state
+// consume that.
 ghost use Rattle.std.specs.Prelude.{ℕ, ◌≤◌, length};
 ghost use Rattle.postcard.specs.Message as message;
 ghost use Rattle.postcard.specs.Message.{Received, Broadcast, Fired, IHave, message_bytes};
@@ -10,12 +11,14 @@ ghost use Rattle.protocol.specs.Consistent.{CoreOf};
 ghost use Rattle.block.specs.LinkSteps.{peer_at};
 ghost use Rattle.block.specs.Panels.{AtRest};
 ghost use Rattle.block.specs.Views.{shown};
-ghost use Rattle.machine.specs.Kinds.Meaning.{ListHeld, Means};
+ghost use Rattle.decide.specs.Settled.{settled};
+ghost use Rattle.machine.specs.Kinds.Meaning.{ListHeld, Means, StepDecided};
 
 use announcements::on_ihave::all_received;
 use block::panel::View;
-use payloads::on_gossip::NewMessage;
-use payloads::on_late_graft_reply::LateCopy;
+use payloads::broadcast::{OwnMessage, decide_own_push};
+use payloads::on_gossip::{NewMessage, decide};
+use payloads::on_late_graft_reply::{LateCopy, late_kind};
 use postcard::message::{Delivery, Timer};
 use steps::call::Call;
 use steps::lookups::is_received_then;
@@ -40,7 +43,7 @@ pub enum Step<'a> {
     Graft { link: usize, wanted: Option<Id> },
     IHave { link: usize, ihaves: Ihaves<'a> },
     // a broadcast of size at most M
-    Broadcast { id: Id, content: &'a [u8] },
+    Broadcast(OwnMessage<'a>),
     SendGraft(Id),
     DispatchLazyPush,
     EvictCache,
@@ -50,7 +53,8 @@ pub enum Step<'a> {
 // The step of a Gossip: "Not valid: nothing", "Received before", or new. Linear in the content, for its hash.
 fn gossip_step<'a>(view: &View, call: &Call, sender: u64, gossip: Gossip<'a>) -> Step<'a>
     requires { AtRest (shown view.now) × (length (message_bytes (message.Gossip (id_of gossip.id) gossip.content.now (delivery_value gossip.delivery))) ≤ (shown view.now).settings.max_message_size) }
-    ensures { Means call.now.instant.0 (shown view.now) result (Received sender (message.Gossip (id_of gossip.entry.id) gossip.entry.content.now (delivery_value gossip.entry.delivery))) }
+    ensures means { Means call.now.instant.0 (shown view.now) result (Received sender (message.Gossip (id_of gossip.entry.id) gossip.entry.content.now (delivery_value gossip.entry.delivery))) }
+    ensures decided { StepDecided call.now result (settled call.now.instant.0 (shown view.now)) }
 {
     let Gossip {
         id,
@@ -61,11 +65,8 @@ fn gossip_step<'a>(view: &View, call: &Call, sender: u64, gossip: Gossip<'a>) ->
         return Step::Nothing;
     }
     if is_received_then(view, call.instant, id) {
-        return Step::Late(LateCopy {
-            sender,
-            id,
-            delivery,
-        });
+        let kind = late_kind(view, call, sender, id, delivery);
+        return Step::Late(LateCopy { sender, id, kind });
     }
     match delivery {
         Delivery::Swarm(round) => Step::NewSwarm(NewMessage {
@@ -73,6 +74,7 @@ fn gossip_step<'a>(view: &View, call: &Call, sender: u64, gossip: Gossip<'a>) ->
             id,
             content,
             round,
+            decision: decide(view, call, sender, id, round),
         }),
         Delivery::Neighbors => Step::NewNeighbors { sender, content },
     }
@@ -82,7 +84,8 @@ fn gossip_step<'a>(view: &View, call: &Call, sender: u64, gossip: Gossip<'a>) ->
 // that is not received.
 fn ihave_step<'a>(view: &View, call: &Call, link: usize, ihaves: Ihaves<'a>) -> Step<'a>
     requires { AtRest (shown view.now) × ListHeld (shown view.now) link ihaves }
-    ensures { Means call.now.instant.0 (shown view.now) result (Received (peer_at (shown view.now) link) (IHave (ihaves_value ihaves.entry))) }
+    ensures means { Means call.now.instant.0 (shown view.now) result (Received (peer_at (shown view.now) link) (IHave (ihaves_value ihaves.entry))) }
+    ensures decided { StepDecided call.now result (settled call.now.instant.0 (shown view.now)) }
 {
     if all_received(view, call, ihaves) {
         return Step::Nothing;
@@ -90,10 +93,12 @@ fn ihave_step<'a>(view: &View, call: &Call, link: usize, ihaves: Ihaves<'a>) -> 
     Step::IHave { link, ihaves }
 }
 
-// The step of a message; Prune, Graft and IHave "from strangers are counted only". Linear in the links, in the content of a Gossip and in the entries of an IHave.
+// The step of a message; Prune, Graft and IHave "from strangers are counted only". Linear in the links, in the content of a Gossip and in the entries of an IHave; of
+// a Gossip that is pushed and handed back, in the record's column of link numbers too.
 pub fn message_step<'a>(view: &View, call: &Call, sender: u64, message: Message<'a>) -> Step<'a>
     requires { AtRest (shown view.now) × (length (message_bytes (message_value message)) ≤ (shown view.now).settings.max_message_size) }
-    ensures { Means call.now.instant.0 (shown view.now) result (Received sender (message_value message.entry)) }
+    ensures means { Means call.now.instant.0 (shown view.now) result (Received sender (message_value message.entry)) }
+    ensures decided { StepDecided call.now result (settled call.now.instant.0 (shown view.now)) }
 {
     match (message, view.find_link(sender)) {
         (Message::Gossip(gossip), _) => gossip_step(view, call, sender, gossip),
@@ -110,19 +115,22 @@ pub fn message_step<'a>(view: &View, call: &Call, sender: u64, message: Message<
 // The step of a broadcast: "Size over M: accepted, only a first event's work". Linear in the content, if it is sent.
 pub fn broadcast_step<'a>(view: &View, call: &Call, content: &'a [u8]) -> Step<'a>
     requires { AtRest (shown view.now) }
-    ensures { Means call.now.instant.0 (shown view.now) result (Broadcast content.now) }
+    ensures means { Means call.now.instant.0 (shown view.now) result (Broadcast content.now) }
+    ensures decided { StepDecided call.now result (settled call.now.instant.0 (shown view.now)) }
 {
     let max = view.head.settings.max_message_size as usize;
     if !serialized_size::broadcast_fits(content.len(), max) {
         return Step::Nothing;
     }
     let id = blake3::hash(content);
-    Step::Broadcast { id, content }
+    let push = decide_own_push(view, call, id);
+    Step::Broadcast(OwnMessage { id, content, push })
 }
 
 // The step of a timer.
 pub fn timer_step(timer: Timer) -> Step<'static>
-    ensures { (now : ℕ) → (s : State) → CoreOf s → Means now s result (Fired (timer_value timer)) }
+    ensures means { (now : ℕ) → (s : State) → CoreOf s → Means now s result (Fired (timer_value timer)) }
+    ensures decided { (call : Call) → (s : State) → StepDecided call result s }
 {
     match timer {
         Timer::SendGraft(id) => Step::SendGraft(id),

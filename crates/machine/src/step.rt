@@ -23,16 +23,16 @@ use steps::on_evict_cache_timer::{evict_sizes, first_event, on_evict_cache_timer
 use steps::settled::sizes_then;
 
 // The numbers of entries after a first event's work and the step. Its time is that of the step's own function.
-pub fn step_sizes(view: &View, call: &Call, step: Step) -> Sizes
-    requires { Named call.now step (shown view.now) }
-    ensures { sizes_value result ≡ sizes_of (after_event call.now step.entry (shown view.now)) }
+pub fn step_sizes(view: &View, call: &Call, step: &Step) -> Sizes
+    requires { Named call.now step.now (shown view.now) }
+    ensures { sizes_value result ≡ sizes_of (after_event call.now step.now (shown view.now)) }
 {
     match step {
-        Step::NewSwarm(message) => gossip_sizes(view, call, &message),
-        Step::Graft { link, wanted } => graft_sizes(view, call, link, wanted),
-        Step::IHave { ihaves, .. } => ihave_sizes(view, call, ihaves),
-        Step::Broadcast { id, content } => broadcast_sizes(view, call, id, content),
-        Step::SendGraft(id) => send_graft_sizes(view, call, id),
+        Step::NewSwarm(message) => gossip_sizes(view, call, message),
+        Step::Graft { link, wanted } => graft_sizes(view, call, *link, *wanted),
+        Step::IHave { ihaves, .. } => ihave_sizes(view, call, *ihaves),
+        Step::Broadcast(message) => broadcast_sizes(view, call, message),
+        Step::SendGraft(id) => send_graft_sizes(view, call, *id),
         Step::DispatchLazyPush => dispatch_sizes(view, call),
         Step::EvictCache => evict_sizes(view, call),
         Step::AnnounceDropped => announce_sizes(view, call),
@@ -41,18 +41,18 @@ pub fn step_sizes(view: &View, call: &Call, step: Step) -> Sizes
 }
 
 // The step, where a first event's work is done.
-pub fn step_state(panel: &mut Panel, call: &Call, step: Step)
-    requires { Ready call.now step (state panel.old) }
-    ensures { Goes (after_step call.now step.entry) panel.old panel.new }
+pub fn step_state(panel: &mut Panel, call: &Call, step: &Step)
+    requires { Ready call.now step.now (state panel.old) }
+    ensures { Goes (after_step call.now step.now) panel.old panel.new }
 {
     match step {
-        Step::NewSwarm(message) => on_gossip(panel, call, &message),
-        Step::Late(copy) => on_late_graft_reply(panel, call, copy),
-        Step::Prune { link } => on_prune(panel, link),
-        Step::Graft { link, wanted } => on_graft(panel, call, link, wanted),
-        Step::IHave { link, ihaves } => on_ihave(panel, link, ihaves),
-        Step::Broadcast { id, content } => broadcast(panel, call, id, content),
-        Step::SendGraft(id) => on_send_graft_timer(panel, call, id),
+        Step::NewSwarm(message) => on_gossip(panel, call, message),
+        Step::Late(copy) => on_late_graft_reply(panel, call, *copy),
+        Step::Prune { link } => on_prune(panel, *link),
+        Step::Graft { link, wanted } => on_graft(panel, call, *link, *wanted),
+        Step::IHave { link, ihaves } => on_ihave(panel, *link, *ihaves),
+        Step::Broadcast(message) => broadcast(panel, call, message),
+        Step::SendGraft(id) => on_send_graft_timer(panel, call, *id),
         Step::DispatchLazyPush => on_dispatch_timer(panel, call),
         Step::EvictCache => on_evict_cache_timer(panel, call),
         Step::AnnounceDropped => on_announce_dropped_timer(panel),
@@ -61,9 +61,9 @@ pub fn step_state(panel: &mut Panel, call: &Call, step: Step)
 }
 
 // "the first other event evicts and schedules EvictCache before anything else", then the step.
-pub fn call_state(panel: &mut Panel, call: &Call, step: Step)
-    requires { Due call.now step (state panel.old) }
-    ensures { Goes (after_event call.now step.entry) panel.old panel.new }
+pub fn call_state(panel: &mut Panel, call: &Call, step: &Step)
+    requires { Due call.now step.now (state panel.old) }
+    ensures { Goes (after_event call.now step.now) panel.old panel.new }
 {
     first_event(panel, call);
     step_state(panel, call, step);

@@ -1,8 +1,6 @@
 -- Bytes that are written in parts.
 -- Assumes nothing.
-use Rattle.std.proofs.Common.{◌≡◌, ℕ, List, ◌++◌, sym, ap, ◌∙◌}
-use Rattle.wire.specs.Encode.Intake.{Intake, after}
-use Rattle.wire.proofs.EncodeLaws.IntakeLaws.{after_append}
+use Rattle.payloads.proofs.Words.{◌≡◌, ℕ, List, ◌++◌, sym, ap, ◌∙◌, Intake, after, after_append}
 
 module _ (a b whole : List ℕ) (e : whole ≡ a ++ b) (h : Intake) where
   pub after-both : (now done : Intake) → now ≡ after a h → done ≡ after b now → done ≡ after whole h

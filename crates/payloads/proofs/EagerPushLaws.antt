@@ -1,3 +1,4 @@
 pub mod TargetLaws
 pub mod SendLaws
 pub mod NoteLaws
+pub mod SameLaws

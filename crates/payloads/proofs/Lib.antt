@@ -10,3 +10,4 @@ pub mod OptimizeTreeLaws
 pub mod OnGossipLaws
 pub mod GossipStateLaws
 pub mod OnLateGraftReplyLaws
+pub mod Words

@@ -1,49 +1,31 @@
 -- A Graft from the neighbour of a link: what is sent, and the state after it.
 -- Assumes nothing.
-use Rattle.std.proofs.Common.{◌≡◌, ℕ, ◌+◌, ◌≤◌, ◌<◌, length, get_or, sym, ◌∙◌, ap, refl, arith, Bool, true, false, not, ◌&&◌, List, [], ◌∷◌, ◌++◌, append_assoc, leb, leb-true, length-append, Some, Option, None}
+use Rattle.payloads.proofs.Words.{◌≡◌, ℕ, ◌+◌, ◌≤◌, ◌<◌, length, get_or, sym, ◌∙◌, ap, refl, arith, Bool, true, false, not, ◌&&◌, List, [], ◌∷◌, ◌++◌, append_assoc, leb, leb-true, length-append, Some, Option, None, is_empty, ascending, keys, and_right, concat-append, concat-one, get, Sent, message_bytes, taken_byte, eager, Links, State, Note, Cached, Room, cache_fits, kth_taken, back_peers, cached_in, add_note, add_batches, batches_for, announce_action, Sizes, sized_recorded, peer_at, linked, link_at, sizes_value, takes_note, Notable, same_keys, link-key, id_of, Id, settled, Head, AtRest, Call, settled-up, settled-low, same_links, same_flag, rooms_of}
 use lib.ListN.{length-map}
-use Rattle.storage.specs.Lists.Base.{is_empty, concat_map, ascending}
-use Rattle.storage.specs.Lists.Map.{keys}
-use Rattle.storage.proofs.ListsLaws.MapLaws.{and_right}
-use Rattle.storage.proofs.ListsLaws.ListLaws.{concat-append, concat-one}
-use Rattle.time_cache.specs.TimeCache.{get}
+use Rattle.storage.specs.Lists.Base.{concat_map}
 use Rattle.postcard.specs.Number.{number_bytes}
-use Rattle.postcard.specs.Message.{Gossip, Swarm, Sent, action_bytes, message_bytes, taken_byte}
+use Rattle.postcard.specs.Message.{Gossip, Swarm, action_bytes}
 use Rattle.postcard.specs.Output.{send_head}
-use Rattle.protocol.specs.Links.{eager, Links, add_eager}
-use Rattle.protocol.specs.State.{State, Note, Cached}
-use Rattle.protocol.specs.Run.{Room}
-use Rattle.protocol.specs.Whole.{content_held, fits, cache_fits}
+use Rattle.protocol.specs.Links.{add_eager}
+use Rattle.protocol.specs.Whole.{content_held, fits}
 use Rattle.protocol.specs.Consistent.{Flagged}
-use Rattle.decide.specs.Rooms.{kth_taken, first_send, back_peers}
-use Rattle.decide.specs.RecordGrowth.{cached_in, add_note, add_batches, batches_for, announce_action, push_actions}
-use Rattle.decide.specs.Sizes.{Sizes, sizes_of, sized_recorded}
+use Rattle.decide.specs.Rooms.{first_send}
+use Rattle.decide.specs.RecordGrowth.{push_actions}
+use Rattle.decide.specs.Sizes.{sizes_of}
 use Rattle.decide.specs.StateAfter.{recorded_state, pushed_state, reply_state, graft_state}
 use Rattle.decide.specs.ActionsAfter.{reply_actions, graft_actions}
 use Rattle.decide.proofs.GraftSendGraft.{length-mark}
-use Rattle.block.specs.LinkSteps.{peer_at, linked, link_at}
 use Rattle.payloads.proofs.EagerLaws.TargetLaws.{back-held, back-taken}
 use Rattle.steps.specs.Pushes.Noted.{noted, noted_state}
-use Rattle.steps.specs.Shared.{sizes_value}
 use Rattle.steps.specs.declared.Sizes.{Sizes as CodeSizes}
 use Rattle.steps.proofs.RoomsLaws.{kth-link}
-use Rattle.steps.specs.Record.{takes_note, Notable}
 use Rattle.payloads.proofs.EagerLaws.BackLaws.{for-one, for-none, recorded-same}
-use Rattle.block.proofs.PanelLaws.{same_keys, link-key}
 use Rattle.steps.proofs.RecordLaws.{noted-yes, noted-no, holds_found}
 use Rattle.std.specs.Prelude.{Option as Option'}
-use Rattle.storage.specs.Rows.Ident.{id_of}
-use Rattle.storage.specs.declared.rows.id.Id.{Id}
-use Rattle.decide.specs.Settled.{settled}
 use Rattle.block.specs.View.{state_of}
-use Rattle.block.specs.declared.head.Head.{Head}
 use Rattle.block.specs.Caches.CachedReads.{cached_value}
-use Rattle.block.specs.Panels.{AtRest}
 use Rattle.payloads.specs.OnGraft.{graft_bytes}
-use Rattle.steps.specs.declared.call.Call.{Call}
 use Rattle.block.specs.declared.caches.cached.CachedMessage.{CachedMessage}
-use Rattle.steps.proofs.AtRestLaws.{settled-up, settled-low, same_links, same_flag}
-use Rattle.steps.specs.Calls.{rooms_of}
 
 -- a push of a cached message to one peer
 module _ (rooms : List Room) (p id : ℕ) where

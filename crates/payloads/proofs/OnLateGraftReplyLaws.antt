@@ -1,42 +1,30 @@
 -- What a copy of a message received before is, case by case, and what follows.
 -- Assumes nothing.
-use Rattle.std.proofs.Common.{◌≡◌, ℕ, get_or, refl, sym, ap, ◌∙◌, arith, Bool, true, false, not, ◌&&◌, ◌||◌, List, [], ◌∷◌, ◌++◌, append-nil, leb, eqb, if◌then◌else◌, Option, Some, None, is_some, eqb-true}
+use Rattle.payloads.proofs.Words.{◌≡◌, ℕ, get_or, refl, sym, ap, ◌∙◌, arith, Bool, true, false, not, ◌&&◌, ◌||◌, List, [], ◌∷◌, ◌++◌, append-nil, leb, eqb, if◌then◌else◌, Option, Some, None, is_some, eqb-true, all, ascending, Map, keys, has, id_of, Id, cases, true≢, and_right, all_head, all_tail, get, replace, Delivery, Prune, Sent, action_bytes, message_bytes, send_head, Mark, Links, is_eager, is_neighbour, add_lazy, State, Hop, Grafts, with_grafted, same_as, no_more_hops, duplicate, repeated, faster, kth_taken, settled, link_at, peer_at, linked, rooms_of, LinkAt, AtRest, HeldAt, numbered_link, Call, NumberedLink, settled-as, same_links}
 use lib.ListN.{length-map}
-use Rattle.storage.specs.Lists.Base.{all, ascending, concat_map}
-use Rattle.storage.specs.Lists.Map.{Map, keys, has, lookup}
-use Rattle.storage.specs.Rows.Ident.{id_of}
-use Rattle.storage.proofs.ListsLaws.MapLaws.{cases, true≢, and_right, all_head, all_tail}
+use Rattle.storage.specs.Lists.Base.{concat_map}
+use Rattle.storage.specs.Lists.Map.{lookup}
 use Rattle.storage.proofs.ListsLaws.Places.{all-at}
-use Rattle.time_cache.specs.TimeCache.{get, replace}
 use Rattle.time_cache.proofs.Orders.{up_of}
-use Rattle.postcard.specs.Message.{Delivery, Prune, Sent, action_bytes, message_bytes}
-use Rattle.postcard.specs.Output.{send_head}
 use Rattle.postcard.specs.Values.{delivery_value}
+use Rattle.postcard.specs.declared.message.Delivery.{Delivery as CodeDelivery}
 use Rattle.postcard.proofs.Listed.{sent_head}
-use Rattle.protocol.specs.Links.{Mark, Links, marked, is_eager, is_neighbour, eager_in, add_lazy}
-use Rattle.protocol.specs.State.{State, Hop, Grafts, with_grafted}
+use Rattle.protocol.specs.Links.{marked, eager_in}
 use Rattle.protocol.specs.Whole.{grafts_whole, neighbours}
-use Rattle.protocol.specs.Gossips.{same_as, no_more_hops, late_from, late_kind, with_kept, duplicate, repeated, faster, Late as LateKind}
-use Rattle.decide.specs.Rooms.{kth_taken, first_send}
-use Rattle.decide.specs.Settled.{settled}
+use Rattle.protocol.specs.Gossips.{late_from, late_kind, with_kept, Late as LateKind}
+use Rattle.decide.specs.Rooms.{first_send}
 use Rattle.decide.specs.ActionsAfter.{late_actions}
 use Rattle.decide.specs.StateAfter.{late_state}
-use Rattle.block.specs.LinkSteps.{link_at, linked}
 use Rattle.block.specs.Caches.GraftSteps.{grafts_at, kept_at}
 use Rattle.block.proofs.LinkLaws.{eager-here}
-use Rattle.steps.specs.Calls.{rooms_of}
-use Rattle.block.specs.Found.{LinkAt}
-use Rattle.block.specs.Panels.{AtRest}
 use Rattle.steps.specs.Rooms.{rooms_in}
 use Rattle.steps.specs.Settled.Then.{no_grafts}
-use Rattle.steps.specs.Shared.{HeldAt}
-use Rattle.block.specs.Views.{numbered_link}
-use Rattle.steps.specs.declared.call.Call.{Call}
-use Rattle.block.specs.declared.links.NumberedLink.{NumberedLink}
-use Rattle.steps.proofs.AtRestLaws.{settled-as, same_links}
+use Rattle.steps.proofs.SettledLaws.ThenLaws.{settled-still}
 use Rattle.steps.proofs.RoomsLaws.{kth-link, kth-stranger}
-use Rattle.payloads.specs.OnLateGraftReply.{copy_kind, after_late, late_bytes}
+use Rattle.payloads.specs.OnLateGraftReply.{copy_kind, late_value, late_bytes, kept_state, after_late}
 use Rattle.payloads.specs.declared.on_late_graft_reply.LateCopy.{LateCopy}
+use Rattle.payloads.specs.declared.on_late_graft_reply.Late.{Late}
+use Rattle.payloads.specs.declared.on_late_graft_reply.Late.TheVariants.{Duplicate, Repeated, Faster}
 
 -- whether the link of a peer is eager
 pub link-eager : (s : State) (p l : ℕ) → ascending (keys s.links) ≡ true → LinkAt s p l → (k : NumberedLink) → k ≡ numbered_link l (link_at s l) → eager_in p s.links ≡ k.eager
@@ -130,25 +118,25 @@ not-among f p (e ∷ m) a n =
     (λ q. rw q (not-among f p m (all_tail f e.key (keys m) a) n))
 
 -- what a copy is, by what is found for its identifier
-module _ (now : ℕ) (c : LateCopy) (s : State) where
-  pub kind-none : get (id_of c.id) (settled now s).grafted ≡ None → duplicate ≡ copy_kind c (settled now s)
+module _ (now sender : ℕ) (i : Id) (d : CodeDelivery) (s : State) where
+  pub kind-none : get (id_of i) (settled now s).grafted ≡ None → duplicate ≡ copy_kind sender i d (settled now s)
   unfolding late_kind
-  kind-none e = sym (ap (late_kind c.sender (delivery_value c.delivery) (settled now s).links) e)
+  kind-none e = sym (ap (late_kind sender (delivery_value d) (settled now s).links) e)
 
-  module _ (i : ℕ) (held : HeldAt no_grafts s.grafted.entries (id_of c.id) (get (id_of c.id) (settled now s).grafted) i) where
-    pub kind-held : late_from c.sender (delivery_value c.delivery) s.links (grafts_at s i) (grafts_at s i).first ≡ copy_kind c (settled now s)
+  module _ (at : ℕ) (held : HeldAt no_grafts s.grafted.entries (id_of i) (get (id_of i) (settled now s).grafted) at) where
+    pub kind-held : late_from sender (delivery_value d) s.links (grafts_at s at) (grafts_at s at).first ≡ copy_kind sender i d (settled now s)
     unfolding late_kind
-    kind-held = sym (λ k. late_kind c.sender (delivery_value c.delivery) (same_links now s k) (held.value k))
+    kind-held = sym (λ k. late_kind sender (delivery_value d) (same_links now s k) (held.value k))
 
-    near-peers : AtRest s → all (λ p. is_neighbour p s.links) (keys (grafts_at s i).peers) ≡ true
+    near-peers : AtRest s → all (λ p. is_neighbour p s.links) (keys (grafts_at s at).peers) ≡ true
     unfolding grafts_whole neighbours
     near-peers rest =
-        and_right (ascending (keys (grafts_at s i).peers)) (all (λ p. is_neighbour p s.links) (keys (grafts_at s i).peers))
-        (all-at (grafts_whole s.links) no_grafts s.grafted.entries rest.consistent.core.grafting i held.below)
+        and_right (ascending (keys (grafts_at s at).peers)) (all (λ p. is_neighbour p s.links) (keys (grafts_at s at).peers))
+        (all-at (grafts_whole s.links) no_grafts s.grafted.entries rest.consistent.core.grafting at held.below)
 
-    pub kind-stranger : AtRest s → is_neighbour c.sender s.links ≡ false → duplicate ≡ copy_kind c (settled now s)
+    pub kind-stranger : AtRest s → is_neighbour sender s.links ≡ false → duplicate ≡ copy_kind sender i d (settled now s)
     kind-stranger rest n =
-        from-other c.sender (delivery_value c.delivery) s.links (grafts_at s i) (not-among (λ p. is_neighbour p s.links) c.sender (grafts_at s i).peers (near-peers rest) n)
+        from-other sender (delivery_value d) s.links (grafts_at s at) (not-among (λ p. is_neighbour p s.links) sender (grafts_at s at).peers (near-peers rest) n)
         ∙ kind-held
 
 -- the first send to the event's peer
@@ -167,47 +155,66 @@ module _ (call : Call) (c : LateCopy) (s : State) where
   abbrev bytes : LateKind → List ℕ
   bytes k = concat_map action_bytes (late_actions (rooms_of call s) c.sender k)
 
-  by-kind : (k : LateKind) → k ≡ copy_kind c t → late_bytes call c t ≡ bytes k
+  by-kind : (k : Late) → c.kind ≡ k → late_bytes call c t ≡ bytes (late_value s k)
   unfolding rooms_in
   by-kind k e =
-      ap (λ (k : LateKind). concat_map action_bytes (late_actions (rooms_of call t) c.sender k)) (sym e)
-      ∙ settled-as call.instant.0 s (λ (u : State). concat_map action_bytes (late_actions (rooms_of call u) c.sender k)) refl
+      settled-as call.instant.0 s (λ (u : State). concat_map action_bytes (late_actions (rooms_of call u) c.sender (late_value u c.kind))) refl
+      ∙ ap (λ (k : Late). bytes (late_value s k)) e
 
-  pub bytes-sender : duplicate ≡ copy_kind c t → (b : Bool) → b ≡ kth_taken 1 c.sender (rooms_of call s) → late_bytes call c t ≡ send_head c.sender b ++ message_bytes Prune
+  pub bytes-sender : c.kind ≡ Duplicate → (b : Bool) → b ≡ kth_taken 1 c.sender (rooms_of call s) → late_bytes call c t ≡ send_head c.sender b ++ message_bytes Prune
   unfolding late_actions first_send concat_map
   bytes-sender e b q =
-      by-kind duplicate e ∙ append-nil (action_bytes (Sent c.sender (kth_taken 1 c.sender (rooms_of call s)) Prune))
+      by-kind Duplicate e ∙ append-nil (action_bytes (Sent c.sender (kth_taken 1 c.sender (rooms_of call s)) Prune))
       ∙ ap (λ (b : Bool). action_bytes (Sent c.sender b Prune)) (sym q)
       ∙ sent_head c.sender b Prune
 
-  pub bytes-first : (p : ℕ) → faster p ≡ copy_kind c t → (q : ℕ) → q ≡ p → (b : Bool) → b ≡ kth_taken 1 p (rooms_of call s) → late_bytes call c t ≡ send_head q b ++ message_bytes Prune
+  pub bytes-first : (l : ℕ) → c.kind ≡ Faster l → (q : ℕ) → q ≡ peer_at s l → (b : Bool) → b ≡ kth_taken 1 (peer_at s l) (rooms_of call s) → late_bytes call c t ≡ send_head q b ++ message_bytes Prune
   unfolding late_actions first_send concat_map
-  bytes-first p e q w b f =
-      by-kind (faster p) e ∙ append-nil (action_bytes (Sent p (kth_taken 1 p (rooms_of call s)) Prune))
+  bytes-first l e q w b f =
+      by-kind (Faster l) e ∙ append-nil (action_bytes (Sent (peer_at s l) (kth_taken 1 (peer_at s l) (rooms_of call s)) Prune))
       ∙ sym (λ k. action_bytes (Sent (w k) (f k) Prune))
       ∙ sent_head q b Prune
 
-  pub bytes-none : repeated ≡ copy_kind c t → late_bytes call c t ≡ []
+  pub bytes-none : c.kind ≡ Repeated → late_bytes call c t ≡ []
   unfolding late_actions concat_map
-  bytes-none e = by-kind repeated e
+  bytes-none e = by-kind Repeated e
+
+-- the links are those before
+pub kept-links : (c : LateCopy) (s : State) → (kept_state c s).links ≡ s.links
+kept-links c s = on (get (id_of c.id) s.grafted)
+  where
+    on : (o : Option Grafts) → (with_kept (id_of c.id) c.sender o s).links ≡ s.links
+    on None = unfold with_kept in refl
+    on (Some g) = unfold with_kept in refl
+
+-- the sender is kept, where the entry is there
+module _ (now : ℕ) (c : LateCopy) (s : State) (done : s.init ≡ true) where
+  by-found : (o : Option Grafts) → get (id_of c.id) (settled now s).grafted ≡ o → kept_state c s ≡ with_kept (id_of c.id) c.sender o s
+  by-found o e = ap (λ (x : Option Grafts). with_kept (id_of c.id) c.sender x s) (ap (λ (u : State). get (id_of c.id) u.grafted) (sym (settled-still now s done)) ∙ e)
+
+  pub kept-none : get (id_of c.id) (settled now s).grafted ≡ None → s ≡ kept_state c s
+  unfolding with_kept
+  kept-none e = sym (by-found None e)
+
+  pub kept-some : (i : ℕ) → HeldAt no_grafts s.grafted.entries (id_of c.id) (get (id_of c.id) (settled now s).grafted) i → kept_at i c.sender s ≡ kept_state c s
+  unfolding with_kept
+  kept-some i held =
+      ap (λ (n : ℕ). with_grafted (replace n (record { first = (grafts_at s i).first; kept = Some c.sender; peers = (grafts_at s i).peers }) s.grafted) s) held.key
+      ∙ sym (by-found (Some (grafts_at s i)) held.value)
 
 -- the state after it
 module _ (c : LateCopy) (s : State) where
-  pub after-duplicate : duplicate ≡ copy_kind c s → linked (add_lazy c.sender) s ≡ after_late c s
-  unfolding late_state
-  after-duplicate e = ap (λ (k : LateKind). late_state c.sender (id_of c.id) k s) e
+  by-state : (k : Late) → c.kind ≡ k → late_state c.sender (id_of c.id) (late_value s k) s ≡ after_late c s
+  by-state k e = ap (λ (x : Late). late_state c.sender (id_of c.id) (late_value s x) s) (sym e)
 
-  pub after-repeated : repeated ≡ copy_kind c s → s ≡ after_late c s
+  pub after-duplicate : c.kind ≡ Duplicate → linked (add_lazy c.sender) s ≡ after_late c s
   unfolding late_state
-  after-repeated e = ap (λ (k : LateKind). late_state c.sender (id_of c.id) k s) e
+  after-duplicate = by-state Duplicate
 
-  pub after-faster : (i p : ℕ) → HeldAt no_grafts s.grafted.entries (id_of c.id) (get (id_of c.id) s.grafted) i → faster p ≡ copy_kind c s
-      → linked (add_lazy p) (kept_at i c.sender s) ≡ after_late c s
-  unfolding late_state with_kept
-  after-faster i p held e =
-      ap (λ (u : State). linked (add_lazy p) u) kept ∙ ap (λ (k : LateKind). late_state c.sender (id_of c.id) k s) e
-    where
-      kept : kept_at i c.sender s ≡ with_kept (id_of c.id) c.sender (get (id_of c.id) s.grafted) s
-      kept =
-          ap (λ (n : ℕ). with_grafted (replace n (record { first = (grafts_at s i).first; kept = Some c.sender; peers = (grafts_at s i).peers }) s.grafted) s) held.key
-          ∙ ap (λ (o : Option Grafts). with_kept (id_of c.id) c.sender o s) (sym held.value)
+  pub after-repeated : c.kind ≡ Repeated → s ≡ after_late c s
+  unfolding late_state
+  after-repeated = by-state Repeated
+
+  pub after-faster : (l : ℕ) → c.kind ≡ Faster l → linked (add_lazy (peer_at (kept_state c s) l)) (kept_state c s) ≡ after_late c s
+  unfolding late_state
+  after-faster l e = ap (λ (m : Links). linked (add_lazy (get_or (keys m) l 0)) (kept_state c s)) (kept-links c s) ∙ by-state (Faster l) e

@@ -1,29 +1,14 @@
 -- A message that is taken in and pushed: what its steps ask where the state at the end is within its limits, and the numbers of entries then.
 -- Assumes nothing.
-use Rattle.std.proofs.Common.{◌≡◌, refl, ap, ◌∙◌, Bool, true, ◌&&◌, not, ℕ, ◌+◌, ◌≤◌, arith, length, List, leb, ◌==◌, count_by, leb-true}
-use Rattle.storage.proofs.ListsLaws.MapLaws.{and_left, and_right}
-use Rattle.protocol.specs.State.{State}
-use Rattle.protocol.specs.Links.{Links}
-use Rattle.protocol.specs.Push.{eager_targets}
-use Rattle.protocol.specs.Whole.{fits, cache_fits, content_held}
-use Rattle.decide.specs.Rooms.{back_peers}
-use Rattle.decide.specs.RecordGrowth.{batches_for, add_batches}
-use Rattle.decide.specs.Settled.{settled}
-use Rattle.decide.specs.Sizes.{Sizes, sizes_of}
+use Rattle.payloads.proofs.Words.{◌≡◌, refl, ap, ◌∙◌, Bool, true, ◌&&◌, not, ℕ, ◌+◌, ◌≤◌, arith, length, List, leb, ◌==◌, count_by, leb-true, and_left, and_right, State, Links, cache_fits, content_held, settled, Sizes, Head, lazy_state, sizes_value, links_from, NumberedLink, same_links, same_dropped}
+use Rattle.protocol.specs.Whole.{fits}
+use Rattle.decide.specs.Sizes.{sizes_of}
 use Rattle.block.specs.View.{state_of}
-use Rattle.block.specs.declared.head.Head.{Head}
-use Rattle.steps.specs.Rooms.{rooms_in}
 use Rattle.steps.specs.declared.Sizes.{Sizes as CodeSizes}
-use Rattle.decide.specs.StateAfter.{taken_state, lazy_state}
+use Rattle.decide.specs.StateAfter.{taken_state}
 use Rattle.block.specs.Sound.{Sound}
-use Rattle.steps.specs.Shared.{sizes_value}
-use Rattle.block.specs.Views.{links_from}
-use Rattle.block.specs.declared.links.NumberedLink.{NumberedLink}
-use Rattle.steps.proofs.AtRestLaws.{settled-as, same_links, same_dropped}
 use Rattle.steps.proofs.LazyPushLaws.{lazy-more-queued}
 use Rattle.steps.proofs.SettledLaws.FewLaws.{few-then}
-use Rattle.steps.specs.Calls.{rooms_of}
-use Rattle.steps.specs.declared.call.Call.{Call}
 
 -- question 13, but for the queue and the record
 abbrev others : State → Bool
@@ -48,14 +33,6 @@ record-within s e =
 pub own-number : (h : Head) (xs : List ℕ) → (state_of h xs).settings.me ≡ h.settings.me
 unfolding state_of
 own-number h xs = refl
-
--- a first event changes nothing that noting reads, but for the grafted messages
-pub settled-record : (held : ℕ → Bool) (call : Call) (id round sender : ℕ) (skip : List ℕ) (now : ℕ) (s : State)
-    → add_batches held (batches_for (record { id = id; round = round }) (back_peers (rooms_of call (settled now s)) (eager_targets sender skip (settled now s)))) (settled now s).dropped
-    ≡ add_batches held (batches_for (record { id = id; round = round }) (back_peers (rooms_of call s) (eager_targets sender skip s))) s.dropped
-unfolding rooms_in eager_targets
-settled-record held call id round sender skip now s =
-    settled-as now s (λ (t : State). add_batches held (batches_for (record { id = id; round = round }) (back_peers (rooms_of call t) (eager_targets sender skip t))) t.dropped) refl
 
 -- the numbers with other numbers of queued and recorded entries
 abbrev pub pushed_numbers : CodeSizes → ℕ → ℕ → CodeSizes

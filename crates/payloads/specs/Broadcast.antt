@@ -1,6 +1,6 @@
 -- A broadcast that is sent.
 -- Assumes nothing.
-use Rattle.std.specs.Prelude.{ℕ, List}
+use Rattle.std.specs.Prelude.{ℕ, List, []}
 use Rattle.storage.specs.Lists.Base.{concat_map}
 use Rattle.storage.specs.Rows.Ident.{id_of}
 use Rattle.storage.specs.declared.rows.id.Id.{Id}
@@ -10,6 +10,12 @@ use Rattle.decide.specs.ActionsAfter.{broadcast_actions}
 use Rattle.decide.specs.StateAfter.{broadcast_state}
 use Rattle.steps.specs.Calls.{rooms_of}
 use Rattle.steps.specs.declared.call.Call.{Call}
+use Rattle.payloads.specs.EagerPush.Decided.{PushIs}
+use Rattle.payloads.specs.declared.eager_push.Push.{Push}
+
+-- what is decided of its eager push is right, of the state that a first event leaves: the panel is the sender, and no grafted peer is skipped
+abbrev pub OwnPush : Call → ℕ → State → Push → Type 0
+OwnPush call id s push = PushIs call s.settings.me [] id s push
 
 -- its actions
 abbrev pub broadcast_bytes : Call → Id → List ℕ → State → List ℕ

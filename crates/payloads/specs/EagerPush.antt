@@ -1,3 +1,4 @@
 pub mod Targets
 pub mod Sends
 pub mod Notes
+pub mod Decided

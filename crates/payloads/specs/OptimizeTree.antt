@@ -2,15 +2,14 @@
 -- Assumes nothing.
 use Rattle.std.specs.Prelude.{ℕ, suc, ◌<◌, ◌≡◌, Bool, not, ◌&&◌, List, [], ◌∷◌, eqb, length, Option, Some, None, if◌then◌else◌}
 use Rattle.storage.specs.Lists.Base.{concat_map}
-use Rattle.storage.specs.Rows.Ident.{id_of}
+use Rattle.storage.specs.Lists.Map.{Map}
 use Rattle.postcard.specs.Message.{Prune, Graft, Action, Sent, action_bytes}
 use Rattle.protocol.specs.Links.{is_neighbour, eager_in}
 use Rattle.protocol.specs.State.{State, Hop}
 use Rattle.protocol.specs.Run.{Room}
-use Rattle.protocol.specs.Gossips.{announcers, grafted_for, graft_out, least_from, far_closer}
+use Rattle.protocol.specs.Gossips.{announcers, graft_out, least_from, far_closer}
 use Rattle.decide.specs.Rooms.{kth_taken, first_send}
-use Rattle.decide.specs.ActionsAfter.{optimise_actions}
-use Rattle.decide.specs.StateAfter.{optimised_links, optimised_state}
+use Rattle.decide.specs.StateAfter.{optimised_links, forgotten_state}
 use Rattle.block.specs.View.{only_if}
 use Rattle.block.specs.LinkSteps.{peer_at, linked}
 use Rattle.block.specs.MissingSteps.{hop}
@@ -18,7 +17,6 @@ use Rattle.block.specs.declared.hops.Hop.{Hop as LinkHop}
 use Rattle.steps.specs.Calls.{rooms_of}
 use Rattle.block.specs.Found.{LinkAt, hop_of}
 use Rattle.steps.specs.declared.call.Call.{Call}
-use Rattle.payloads.specs.declared.optimize_tree.Arrival.{Arrival}
 use Rattle.payloads.specs.declared.optimize_tree.Shortcut.{Shortcut}
 
 -- "First announcer of least round"; what stands where there is none
@@ -41,18 +39,27 @@ abbrev pub NearestOf : State → Option Hop → Option LinkHop → Type 0
 NearestOf s found (Some k) = NearestAt s found k
 NearestOf s found None = found ≡ None
 
--- "optimise as `on_gossip` says": for a neighbour sender, and no graft out
-abbrev pub wanted : ℕ → ℕ → ℕ → State → Bool
-wanted id sender round s = is_neighbour sender s.links && not (graft_out sender round (grafted_for id s))
+-- "optimise as `on_gossip` says": for a neighbour sender, and no graft out to these peers
+abbrev pub wanted : Map ℕ → ℕ → ℕ → State → Bool
+wanted grafted sender round s = is_neighbour sender s.links && not (graft_out sender round grafted)
 
 -- the announcer that the tree is optimised by, if it is
-unfoldable pub shortcut : ℕ → ℕ → ℕ → State → Option Hop
-shortcut id sender round s = if wanted id sender round s then nearest s.settings.optimization_threshold (suc round) (announcers id s) else None
+unfoldable pub shortcut : Map ℕ → ℕ → ℕ → ℕ → State → Option Hop
+shortcut grafted id sender round s = if wanted grafted sender round s then nearest s.settings.optimization_threshold (suc round) (announcers id s) else None
+
+-- the announcer of a shortcut
+abbrev pub announcer_of : Shortcut → LinkHop
+announcer_of c = record { link = c.announcer; round = c.round }
 
 -- the same with the sender, by the numbers of their links
 abbrev pub ShortcutOf : State → ℕ → Option Hop → Option Shortcut → Type 0
-ShortcutOf s sender found (Some c) = LinkAt s sender c.sender × NearestAt s found c.announcer
+ShortcutOf s sender found (Some c) = LinkAt s sender c.sender × NearestAt s found (announcer_of c)
 ShortcutOf s sender found None = found ≡ None
+
+-- these links are there
+abbrev pub ShortcutHeld : State → Option Shortcut → Type 0
+ShortcutHeld s (Some c) = (c.sender < length s.links) × (c.announcer < length s.links)
+ShortcutHeld s None = Unit {0}
 
 -- "Graft without identifier unless eager, then sender lazy, Prune", by this announcer
 unfoldable pub best_actions : List Room → ℕ → Hop → State → List Action
@@ -61,21 +68,15 @@ best_actions rooms sender b s =
     else first_send rooms (Graft None b.round) b.peer ∷ Sent sender (kth_taken (if eqb sender b.peer then 2 else 1) sender rooms) Prune ∷ []
 
 -- the actions by it
-abbrev pub shortcut_bytes : Call → Shortcut → State → List ℕ
-shortcut_bytes call c s = concat_map action_bytes (best_actions (rooms_of call s) (peer_at s c.sender) (hop_of s c.announcer) s)
-
--- the actions of optimising
-unfoldable pub optimise_on : List Room → ℕ → ℕ → ℕ → State → List Action
-optimise_on rooms id sender round s = if wanted id sender round s then optimise_actions rooms sender (suc round) (announcers id s) s else []
-
--- the actions of optimising
-abbrev pub optimize_bytes : Call → Arrival → State → List ℕ
-optimize_bytes call a s = concat_map action_bytes (optimise_on (rooms_of call s) (id_of a.id) a.sender a.round.0 s)
+abbrev pub shortcut_bytes : Call → Option Shortcut → State → List ℕ
+shortcut_bytes call (Some c) s = concat_map action_bytes (best_actions (rooms_of call s) (peer_at s c.sender) (hop_of s (announcer_of c)) s)
+shortcut_bytes call None s = []
 
 -- the state by it
-abbrev pub after_shortcut : Shortcut → State → State
-after_shortcut c s = linked (optimised_links (peer_at s c.sender) (hop_of s c.announcer)) s
+abbrev pub after_shortcut : Option Shortcut → State → State
+after_shortcut (Some c) s = linked (optimised_links (peer_at s c.sender) (hop_of s (announcer_of c))) s
+after_shortcut None s = s
 
--- the state with the links optimised, before anything is dropped
-unfoldable pub optimised_on : ℕ → ℕ → ℕ → State → State
-optimised_on id sender round s = if wanted id sender round s then optimised_state sender (suc round) (announcers id s) s else s
+-- and with the graft-timer mark and the announcers dropped
+abbrev pub finished_state : ℕ → Option Shortcut → State → State
+finished_state id c s = forgotten_state id (after_shortcut c s)

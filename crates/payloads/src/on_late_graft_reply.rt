@@ -2,8 +2,6 @@
 // neighbour sender goes lazy, and Prune".
 ghost use Rattle.std.specs.Prelude.{◌≡◌, true, ◌<◌, ◌||◌, ◌&&◌, not, eqb, length};
 ghost use Rattle.storage.specs.Lists.Map.{has};
-ghost use Rattle.storage.specs.Rows.Ident.{id_of};
-ghost use Rattle.time_cache.specs.TimeCache.{get};
 ghost use Rattle.postcard.specs.Values.{delivery_value};
 ghost use Rattle.protocol.specs.Links.{eager_in};
 ghost use Rattle.protocol.specs.Gossips.{same_as, no_more_hops};
@@ -15,7 +13,7 @@ ghost use Rattle.steps.specs.Calls.{rooms_of};
 ghost use Rattle.block.specs.Found.{LinkIf};
 ghost use Rattle.block.specs.Views.{shown};
 ghost use Rattle.block.specs.Panels.{state, Goes, AtRest};
-ghost use Rattle.payloads.specs.OnLateGraftReply.{copy_kind, LateIs, late_bytes, after_late};
+ghost use Rattle.payloads.specs.OnLateGraftReply.{copy_kind, late_value, LateHeld, late_bytes, kept_state, after_late};
 
 use block::caches::grafted::FirstCopy;
 use block::panel::{Panel, View};
@@ -29,21 +27,21 @@ use wire::encode::action::Send;
 use wire::encode::message::Prune;
 use wire::encode::sink::Sink;
 
-// A copy of a message received before: who sent it, and how it came.
+// What a copy of a message received before is: a plain duplicate, a second reply from a peer that already gave us the message, or one over no more hops than the
+// first copy, whose sender goes lazy: the number of its link.
+#[derive(Clone, Copy)]
+pub enum Late {
+    Duplicate,
+    Repeated,
+    Faster { first: usize },
+}
+
+// A copy of a message received before: who sent it, and what it is.
 #[derive(Clone, Copy)]
 pub struct LateCopy {
     pub sender: u64,
     pub id: Id,
-    pub delivery: Delivery,
-}
-
-// What a copy is: a plain duplicate, a second reply from a peer that already gave us the message, or one over no more hops than the first copy, whose sender
-// goes lazy. Of the last the number of the grafted message, and that of the first sender's link.
-#[derive(Clone, Copy)]
-enum Late {
-    Duplicate,
-    Repeated,
-    Faster { entry: usize, first: usize },
+    pub kind: Late,
 }
 
 // `no_more_hops`.
@@ -75,30 +73,31 @@ fn lazy_first(view: &View, entry: usize, first: FirstCopy) -> Option<usize>
 }
 
 // What a copy is, once a first event has evicted. Its time is that of look-ups, and of two passes over the peers of a grafted message.
-fn late_kind(view: &View, call: &Call, copy: LateCopy) -> Late
+pub fn late_kind(view: &View, call: &Call, sender: u64, id: Id, delivery: Delivery) -> Late
     requires { AtRest (shown view.now) }
-    ensures { LateIs (shown view.now) (id_of copy.id) (get (id_of copy.id) (settled call.now.instant.0 (shown view.now)).grafted) (copy_kind copy (settled call.now.instant.0 (shown view.now))) result }
+    ensures kind { late_value (shown view.now) result ≡ copy_kind sender id delivery (settled call.now.instant.0 (shown view.now)) }
+    ensures held { LateHeld (shown view.now) result }
 {
-    let Some(entry) = grafted_entry_then(view, call.instant, copy.id) else {
+    let Some(entry) = grafted_entry_then(view, call.instant, id) else {
         return Late::Duplicate;
     };
     let Some(first) = view.first_copy(entry) else {
         return Late::Duplicate;
     };
-    let Some(link) = view.find_link(copy.sender) else {
+    let Some(link) = view.find_link(sender) else {
         return Late::Duplicate;
     };
     if !view.is_grafted(entry, link) {
         return Late::Duplicate;
     }
-    if is_repeated(view, entry, first, copy.sender) {
+    if is_repeated(view, entry, first, sender) {
         return Late::Repeated;
     }
-    if !no_more_hops(copy.delivery, first.round) || !view.link(link).eager {
+    if !no_more_hops(delivery, first.round) || !view.link(link).eager {
         return Late::Duplicate;
     }
     match lazy_first(view, entry, first) {
-        Some(first) => Late::Faster { entry, first },
+        Some(first) => Late::Faster { first },
         None => Late::Duplicate,
     }
 }
@@ -116,10 +115,10 @@ fn takes_back(view: &View, call: &Call, peer: u64) -> bool
 
 // Its actions: a Prune to the sender, or to the first sender, or none.
 pub fn late_actions<S: Sink>(view: &View, call: &Call, out: &mut S, copy: LateCopy)
-    requires rest { AtRest (shown view.now) × (copy.sender ≡ call.now.peer) }
+    requires rest { AtRest (shown view.now) × (copy.sender ≡ call.now.peer) × LateHeld (shown view.now) copy.kind }
     ensures { S.intake out.new ≡ after (late_bytes call.now copy (settled call.now.instant.0 (shown view.now))) (S.intake out.old) }
 {
-    match late_kind(view, call, copy) {
+    match copy.kind {
         Late::Duplicate => {
             let taken = takes_back(view, call, copy.sender);
             Send {
@@ -130,7 +129,7 @@ pub fn late_actions<S: Sink>(view: &View, call: &Call, out: &mut S, copy: LateCo
             .encode(out);
         }
         Late::Repeated => {}
-        Late::Faster { first, .. } => {
+        Late::Faster { first } => {
             Send {
                 peer: view.link(first).peer,
                 taken: call.rooms.takes(first),
@@ -141,18 +140,28 @@ pub fn late_actions<S: Sink>(view: &View, call: &Call, out: &mut S, copy: LateCo
     }
 }
 
+// The sender is kept for a grafted message that has an entry, where a first event's work is done.
+fn keep_sender(panel: &mut Panel, call: &Call, copy: LateCopy)
+    requires { AtRest (state panel.old) × ((state panel.old).init ≡ true) }
+    ensures { Goes (kept_state copy) panel.old panel.new }
+{
+    if let Some(entry) = grafted_entry_then(&panel.view(), call.instant, copy.id) {
+        panel.keep_sender(entry, copy.sender);
+    }
+}
+
 // The step, where a first event's work is done: the sender goes lazy, or it is kept and the first sender goes lazy.
 pub fn on_late_graft_reply(panel: &mut Panel, call: &Call, copy: LateCopy)
-    requires { AtRest (state panel.old) × ((state panel.old).init ≡ true) }
+    requires { AtRest (state panel.old) × ((state panel.old).init ≡ true) × LateHeld (state panel.old) copy.kind }
     ensures { Goes (after_late copy) panel.old panel.new }
 {
-    match late_kind(&panel.view(), call, copy) {
+    match copy.kind {
         Late::Duplicate => {
             panel.add_lazy_peer(copy.sender);
         }
         Late::Repeated => {}
-        Late::Faster { entry, first } => {
-            panel.keep_sender(entry, copy.sender);
+        Late::Faster { first } => {
+            keep_sender(panel, call, copy);
             panel.add_lazy(first);
         }
     }

@@ -6,3 +6,4 @@ pub mod Guarantee
 pub mod OutputSizeLaws
 pub mod ListLaws
 pub mod HistoriesLaws
+pub mod Words

@@ -1,16 +1,11 @@
 -- A list of calls leads to a block and counts: an empty one from a creation, one call more from an event call, the saved one from a return.
-use Rattle.std.proofs.Common.{Some, ℕ, ◌≡◌, sym, subst, List, [], ◌∷◌, ◌++◌, length, take}
+use Rattle.plumtree.proofs.Words.{Some, ℕ, ◌≡◌, sym, subst, List, [], ◌∷◌, ◌++◌, length, take, Counts, Call, Settings, Limits, Lent, Called}
 use Rattle.storage.specs.Lists.Map.{lookup}
 use Rattle.whole.specs.States.Kept.{Kept}
 use Rattle.whole.specs.States.Area.{kept_in}
 use Rattle.whole.specs.States.Calls.{Returns}
 use Rattle.whole.proofs.StatesLaws.Accepted.{brought}
 use Rattle.postcard.specs.Wide.{Bytes}
-use Rattle.protocol.specs.State.{Counts}
-use Rattle.protocol.specs.Answer.{Call}
-use Rattle.block.specs.declared.head.Settings.{Settings}
-use Rattle.block.specs.declared.head.Limits.{Limits}
-use Rattle.machine.specs.Called.{Lent, Called}
 use Rattle.output_size.specs.OutputSize.{AllBytes}
 use Rattle.plumtree.specs.Calls.{Made}
 use Rattle.plumtree.specs.Chain.{Seen, Chain, done, next}

@@ -1,12 +1,6 @@
 -- An output of `output_size` bytes is enough, over blocks.
 -- Assumes nothing.
-use Rattle.std.proofs.Common.{ℕ, arith, refl, sym, ap, subst, ◌∙◌, List, map, length}
-use Rattle.blake3.specs.Blake3.{identifier}
-use Rattle.protocol.specs.State.{Counts, fresh, zero_counts}
-use Rattle.protocol.specs.Answer.{Call, Answer, refuse, accept}
-use Rattle.block.specs.View.{settings_of, limits_of}
-use Rattle.block.specs.declared.head.Settings.{Settings}
-use Rattle.block.specs.declared.head.Limits.{Limits}
+use Rattle.plumtree.proofs.Words.{ℕ, arith, refl, sym, ap, subst, ◌∙◌, List, map, length, identifier, Counts, fresh, zero_counts, Call, Answer, refuse, accept, settings_of, limits_of, Settings, Limits}
 use Rattle.output_size.specs.OutputSize.{AllBytes, Enough}
 use Rattle.output_size.proofs.Lists.{EachAnswer, no_more, one_more, each-enough}
 use Rattle.plumtree.specs.Calls.{Made}

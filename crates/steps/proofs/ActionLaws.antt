@@ -1,13 +1,10 @@
 -- Actions: the bytes of none, of one, and of some and then others; those of a first event's eviction, and of EvictCache behind it.
 -- Assumes nothing.
-use Rattle.std.proofs.Common.{◌≡◌, refl, ap, true, false, List, [], ◌∷◌, ◌++◌, map, ℕ, ltb, ltb-true}
+use Rattle.steps.proofs.Words.{◌≡◌, refl, ap, true, false, List, [], ◌∷◌, ◌++◌, map, ℕ, ltb, ltb-true, cases, Expiry, Cache, Action, action_bytes, Scheduled, Forgotten, EvictCache, State}
 use borrow.Author.Tests.{lt-leb}
 use Rattle.storage.specs.Lists.Base.{concat_map, filter}
-use Rattle.storage.proofs.ListsLaws.MapLaws.{cases}
 use Rattle.storage.proofs.ListsLaws.ListLaws.{concat-append, concat-one}
-use Rattle.time_cache.specs.TimeCache.{Expiry, Cache, due, popped, expired_keys, later_cache}
-use Rattle.postcard.specs.Message.{Action, action_bytes, Scheduled, Forgotten, EvictCache}
-use Rattle.protocol.specs.State.{State}
+use Rattle.time_cache.specs.TimeCache.{due, popped, expired_keys, later_cache}
 use Rattle.decide.specs.Settled.{settled, forgotten_actions, settled_actions}
 use Rattle.decide.specs.ActionsAfter.{evict_actions}
 

@@ -1,16 +1,9 @@
 -- A panel between two calls, and what is the same of the state that a first event leaves.
 -- Assumes nothing.
-use Rattle.std.proofs.Common.{◌≡◌, ℕ, ◌<◌, length, refl, sym, ap, ◌∙◌, arith, Bool, true, false, if◌then◌else◌}
-use Rattle.storage.specs.Lists.Base.{ascending}
-use Rattle.storage.specs.Lists.Map.{keys}
-use Rattle.time_cache.specs.TimeCache.{Cache, Timely, later_cache}
-use Rattle.protocol.specs.Links.{Links}
-use Rattle.protocol.specs.State.{State, with_init, with_received, with_grafted, with_cache}
+use Rattle.steps.proofs.Words.{◌≡◌, ℕ, ◌<◌, length, refl, sym, ap, ◌∙◌, arith, Bool, true, false, if◌then◌else◌, ascending, keys, Cache, Timely, later_cache, Links, State, with_init, with_received, with_grafted, with_cache, peer_at, AtRest}
 use Rattle.decide.specs.Settled.{settled}
 use Rattle.block.specs.Caches.InBlock.{InOrder}
 use Rattle.block.specs.Caches.GraftSteps.{Grafting}
-use Rattle.block.specs.LinkSteps.{peer_at}
-use Rattle.block.specs.Panels.{AtRest}
 use Rattle.steps.specs.Record.{takes_note}
 
 -- what the functions of the tables ask

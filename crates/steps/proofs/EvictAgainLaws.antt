@@ -1,10 +1,8 @@
 -- Eviction twice at one instant leaves as many as eviction once.
 -- Assumes nothing.
-use Rattle.std.proofs.Common.{ℕ, suc, ◌+◌, ◌≡◌, refl, ap, Bool, false, List, [], ◌∷◌, arith, ltb, length, if◌then◌else◌}
+use Rattle.steps.proofs.Words.{ℕ, suc, ◌+◌, ◌≡◌, refl, ap, Bool, false, List, [], ◌∷◌, arith, ltb, length, if◌then◌else◌, cases, State}
 use Rattle.storage.specs.Lists.Base.{filter, count, sum}
-use Rattle.storage.proofs.ListsLaws.MapLaws.{cases}
 use Rattle.time_cache.specs.TimeCache.{later_cache}
-use Rattle.protocol.specs.State.{State}
 use Rattle.decide.specs.Sizes.{sizes_of}
 use Rattle.decide.proofs.SizesAfter.{evict_sizes}
 use Rattle.decide.specs.Settled.{settled}

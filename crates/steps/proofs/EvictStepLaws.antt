@@ -1,19 +1,15 @@
 -- Eviction and the first event's work: what they leave of a state at rest, and the numbers of entries.
 -- Assumes nothing.
-use Rattle.std.proofs.Common.{◌≡◌, ℕ, refl, sym, ap, ◌∙◌, Bool, true, false, List, if◌then◌else◌, subst}
-use Rattle.time_cache.specs.TimeCache.{later_cache}
-use Rattle.protocol.specs.State.{State, with_init, with_received, with_grafted, with_cache}
+use Rattle.steps.proofs.Words.{◌≡◌, ℕ, refl, sym, ap, ◌∙◌, Bool, true, false, List, if◌then◌else◌, later_cache, State, with_init, with_received, with_grafted, with_cache, CoreOf, Head, AtRest}
+use Rattle.std.proofs.Common.{subst}
 use Rattle.protocol.specs.Ticks.{evict}
 use Rattle.protocol.specs.Whole.{content_held}
-use Rattle.protocol.specs.Consistent.{CoreOf}
 use Rattle.decide.specs.Sizes.{sizes_of}
 use Rattle.decide.proofs.SizesAfter.{evict_sizes}
 use Rattle.decide.specs.Settled.{settled}
 use Rattle.decide.specs.StateAfter.{first_state}
 use Rattle.decide.proofs.SettledLaws.{evicted, length-later, expiry-later, content-later}
 use Rattle.block.specs.View.{state_of}
-use Rattle.block.specs.declared.head.Head.{Head}
-use Rattle.block.specs.Panels.{AtRest}
 use Rattle.steps.proofs.StandsAfter.{Kept, kept-first}
 use Rattle.steps.proofs.EvictAgainLaws.{evict-again}
 

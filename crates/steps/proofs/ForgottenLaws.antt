@@ -1,18 +1,12 @@
 -- What an eviction tells, one identifier after the other.
 -- Assumes nothing.
-use Rattle.std.proofs.Common.{◌≡◌, false, not, refl, ℕ, ◌+◌, ◌<◌, ◌≤◌, List, [], ◌∷◌, ◌++◌, map, length, get_or, drop, sym, ap, ◌∙◌, add-one}
-use Rattle.std.proofs.lemmas.List.{drop_all}
+use Rattle.steps.proofs.Words.{◌≡◌, false, not, refl, ℕ, ◌+◌, ◌<◌, ◌≤◌, List, [], ◌∷◌, ◌++◌, map, length, get_or, drop, sym, ap, ◌∙◌, add-one, drop_all, is_empty, due, expired_keys, Forgotten, action_bytes, Intake, after, State, Head}
 use Rattle.std.proofs.Math.Seq.{drop-cons}
-use Rattle.storage.specs.Lists.Base.{concat_map, is_empty}
-use Rattle.time_cache.specs.TimeCache.{due, expired_keys}
+use Rattle.storage.specs.Lists.Base.{concat_map}
 use Rattle.time_cache.proofs.PassedLaws.{none-due}
-use Rattle.postcard.specs.Message.{Forgotten, action_bytes}
-use Rattle.wire.specs.Encode.Intake.{Intake, after}
 use Rattle.wire.proofs.EncodeLaws.IntakeLaws.{after_append, after_nil}
-use Rattle.protocol.specs.State.{State}
 use Rattle.block.specs.View.{state_of}
 use Rattle.block.specs.Caches.CachedReads.{row_id}
-use Rattle.block.specs.declared.head.Head.{Head}
 use Rattle.decide.specs.Settled.{forgotten_actions}
 use Rattle.decide.specs.ActionsAfter.{evict_actions}
 use Rattle.steps.proofs.ActionLaws.{one-action, actions-then, scheduled}

@@ -1,22 +1,18 @@
 -- The notes of a lazy push, link by link, and how many they are.
 -- Assumes nothing.
-use Rattle.std.proofs.Common.{◌≡◌, ℕ, suc, ◌+◌, ◌<◌, ◌≤◌, length, sym, ◌∙◌, ap, refl, arith, get_or, Bool, true, false, List, [], ◌∷◌, ◌++◌, take, map, filter, append_assoc, length-append, add-one, drop, not, ◌&&◌, if◌then◌else◌, ◌==◌, count_by, cond, eqb}
+use Rattle.steps.proofs.Words.{◌≡◌, ℕ, suc, ◌+◌, ◌<◌, ◌≤◌, length, sym, ◌∙◌, ap, refl, arith, get_or, Bool, true, false, List, [], ◌∷◌, ◌++◌, take, map, append_assoc, length-append, add-one, drop, not, ◌&&◌, if◌then◌else◌, ◌==◌, count_by, cond, eqb, map-append, take-append-drop, Entry, entry, Mark, Links, eager, lazy, quiet, is_lazy, State, Note, with_queue, with_dispatch_scheduled, link_at, queue_also, numbered_link}
+use Rattle.std.proofs.Common.{filter}
 use lib.ListN.{get_or-map}
 use Rattle.std.proofs.lemmas.List.Sums.{sum_by-cons}
 use Rattle.std.proofs.lemmas.List.Elements.{filter-append}
 use Rattle.storage.specs.Lists.Base.{filter as filter_of}
 use Rattle.decide.specs.StateAfter.{lazy_state}
-use Rattle.std.proofs.lemmas.List.{map-append, take-append-drop}
 use Rattle.protocol.specs.Push.{note_for}
 use Rattle.std.proofs.Math.Seq.{take-suc, take_all}
 use Rattle.std.proofs.lemmas.Grind.{common_steps}
-use Rattle.storage.specs.Lists.Map.{Entry, entry}
-use Rattle.protocol.specs.Links.{Mark, Links, eager, lazy, quiet, is_lazy, lazy_peers, peers_marked}
-use Rattle.protocol.specs.State.{State, Note, with_queue, with_dispatch_scheduled}
-use Rattle.block.specs.LinkSteps.{link_at}
-use Rattle.block.specs.NoteSteps.{queue_also}
+use Rattle.protocol.specs.Links.{lazy_peers, peers_marked}
 use Rattle.steps.specs.LazyPush.{lazy_target}
-use Rattle.block.specs.Views.{links_from, numbered_link}
+use Rattle.block.specs.Views.{links_from}
 use Rattle.block.specs.declared.links.NumberedLink.{NumberedLink}
 
 -- the note of a link

@@ -9,9 +9,11 @@ pub mod RecordLaws
 pub mod LazyPushLaws
 pub mod TakeInLaws
 pub mod NoteTheseLaws
+pub mod LinkSetLaws
 pub mod PeersLaws
 pub mod EvictStepLaws
 pub mod SetFirstLaws
 pub mod NeighborLaws
 pub mod GroupsLaws
 pub mod ForgottenLaws
+pub mod Words

@@ -1,22 +1,16 @@
 -- A neighbour that comes or goes, of the state alone.
 -- Assumes nothing.
-use Rattle.std.proofs.Common.{◌≡◌, ℕ, suc, ◌+◌, ◌≤◌, ◌<◌, length, refl, sym, ap, ◌∙◌, arith, true, false, Bool, add-one, List, [], ◌∷◌, eqb, Option, Some, None, leb-true}
+use Rattle.steps.proofs.Words.{◌≡◌, ℕ, suc, ◌+◌, ◌≤◌, ◌<◌, length, refl, sym, ap, ◌∙◌, arith, true, false, Bool, add-one, List, [], ◌∷◌, eqb, Option, Some, None, leb-true, ascending, keys, has, cases, true≢, and_left, Links, up_mark, is_neighbour, State, Consistent, sized_links, linked, Head}
 use Rattle.std.specs.Option.{is_some}
 use lib.ListN.{length-map}
-use Rattle.storage.specs.Lists.Base.{ascending}
-use Rattle.storage.specs.Lists.Map.{keys, has, lookup, remove}
-use Rattle.storage.proofs.ListsLaws.MapLaws.{cases, true≢, and_left}
+use Rattle.storage.specs.Lists.Map.{lookup, remove}
 use Rattle.time_cache.proofs.Orders.{up_of}
-use Rattle.protocol.specs.Links.{Links, up_mark, is_neighbour, link_up}
-use Rattle.protocol.specs.State.{State}
+use Rattle.protocol.specs.Links.{link_up}
 use Rattle.protocol.specs.Neighbours.{forget_peer}
-use Rattle.protocol.specs.Consistent.{Consistent}
 use Rattle.protocol.specs.Whole.{fits, content_held}
-use Rattle.decide.specs.Sizes.{sizes_of, sized_links, grown}
+use Rattle.decide.specs.Sizes.{sizes_of, grown}
 use Rattle.decide.proofs.TableSizes.{length-insert}
-use Rattle.block.specs.LinkSteps.{linked}
 use Rattle.block.specs.View.{state_of}
-use Rattle.block.specs.declared.head.Head.{Head}
 use Rattle.block.proofs.LinkLaws.{neighbour-here, count-links}
 use Rattle.block.proofs.NeighboursLaws.Strangers.{stranger}
 use Rattle.block.specs.Found.{LinkOf}

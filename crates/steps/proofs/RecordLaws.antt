@@ -1,17 +1,12 @@
 -- `note_dropped` of one cached identifier.
 -- Assumes nothing.
-use Rattle.std.proofs.Common.{◌≡◌, ℕ, ◌≤◌, ◌<◌, length, sym, ◌∙◌, ap, refl, Bool, true, false, not, ◌&&◌, ◌||◌, List, [], ◌∷◌, ◌++◌, le-leb, leb, if◌then◌else◌, Option, Some, None, is_some}
+use Rattle.steps.proofs.Words.{◌≡◌, ℕ, ◌≤◌, ◌<◌, length, sym, ◌∙◌, ap, refl, Bool, true, false, not, ◌&&◌, ◌||◌, List, [], ◌∷◌, ◌++◌, le-leb, leb, if◌then◌else◌, Option, Some, None, any, count, true≢, lookup, Timed, Cache, holds, State, Note, with_dropped, peer_at, note, drop_also, standing}
+use Rattle.std.proofs.Common.{is_some}
 use borrow.Author.Tests.{lt-leb}
-use Rattle.storage.specs.Lists.Base.{any, count}
-use Rattle.storage.proofs.ListsLaws.MapLaws.{true≢}
-use Rattle.storage.specs.Lists.Map.{lookup}
-use Rattle.time_cache.specs.TimeCache.{Timed, Cache, get, holds, value_of}
-use Rattle.protocol.specs.State.{State, Note, with_dropped}
+use Rattle.time_cache.specs.TimeCache.{get, value_of}
 use Rattle.protocol.specs.Push.{for_peer, notes, record_full}
 use Rattle.decide.specs.RecordGrowth.{add_note}
 use Rattle.decide.specs.StateAfter.{recorded_state}
-use Rattle.block.specs.LinkSteps.{peer_at}
-use Rattle.block.specs.NoteSteps.{note, drop_also, standing}
 use Rattle.steps.specs.Pushes.Noted.{noted, noted_state}
 use Rattle.steps.specs.Record.{takes_note}
 

@@ -1,13 +1,9 @@
 -- The link room of a peer, out of the numbers that a call brings.
-use Rattle.std.proofs.Common.{None, ℕ, zero, suc, ◌≤◌, ◌<◌, not-suc-le-zero, arith, ◌≡◌, refl, sym, ap, ◌∙◌, true, false, List, [], ◌∷◌, ◌++◌, leb, ltb, eqb, length, get_or, ltb-true, ltb-false, eq-eqb, ne_eqb, le-leb}
+use Rattle.steps.proofs.Words.{None, ℕ, zero, suc, ◌≤◌, ◌<◌, not-suc-le-zero, arith, ◌≡◌, refl, sym, ap, ◌∙◌, true, false, List, [], ◌∷◌, ◌++◌, leb, ltb, eqb, length, get_or, ltb-true, ltb-false, eq-eqb, ne_eqb, le-leb, all, Map, keys, has, cases, true≢, and_left, and_right, all_head, all_tail, is_neighbour, State, peer_at}
 use lib.ListN.{length-map}
-use Rattle.storage.specs.Lists.Base.{all, ascending, member}
-use Rattle.storage.specs.Lists.Map.{Map, keys, lookup, has}
-use Rattle.storage.proofs.ListsLaws.MapLaws.{cases, true≢, and_left, and_right, all_head, all_tail}
-use Rattle.protocol.specs.Links.{is_neighbour}
-use Rattle.protocol.specs.State.{State}
+use Rattle.storage.specs.Lists.Base.{ascending, member}
+use Rattle.storage.specs.Lists.Map.{lookup}
 use Rattle.protocol.specs.Run.{Room}
-use Rattle.block.specs.LinkSteps.{peer_at}
 use Rattle.decide.specs.Rooms.{kth_taken, first_room, room_for}
 use Rattle.decide.proofs.Decide.{kth-room}
 use Rattle.steps.specs.declared.call.Rooms.{Rooms}

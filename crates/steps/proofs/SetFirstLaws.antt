@@ -1,10 +1,7 @@
 -- `first` of a grafted message, where a first event's work is done.
 -- Assumes nothing.
-use Rattle.std.proofs.Common.{Option, Some, None, ◌≡◌, ℕ, sym, ap, ◌∙◌, true}
-use Rattle.time_cache.specs.TimeCache.{get, replace}
-use Rattle.protocol.specs.State.{State, Grafts, with_grafted}
+use Rattle.steps.proofs.Words.{Option, Some, None, ◌≡◌, ℕ, sym, ap, ◌∙◌, true, get, replace, State, Grafts, with_grafted, settled}
 use Rattle.protocol.specs.Gossips.{with_first}
-use Rattle.decide.specs.Settled.{settled}
 use Rattle.decide.specs.StateAfter.{first_set_state}
 use Rattle.block.specs.Caches.GraftSteps.{grafts_at, first_at}
 use Rattle.steps.specs.Settled.Then.{no_grafts}

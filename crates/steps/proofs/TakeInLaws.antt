@@ -1,17 +1,15 @@
 -- A message taken in: the numbers of entries with it, and what it asks of a state that is within its limits after.
 -- Assumes nothing.
-use Rattle.std.proofs.Common.{Option, Some, None, is_some, ◌≡◌, ℕ, suc, ◌+◌, ◌-◌, ◌≤◌, ◌^◌, length, sym, ◌∙◌, ap, refl, arith, add-one, Bool, true, false, not, ◌&&◌, List, [], ◌∷◌, leb, eqb, leb-true}
+use Rattle.steps.proofs.Words.{Option, Some, None, ◌≡◌, ℕ, suc, ◌+◌, ◌-◌, ◌≤◌, ◌^◌, length, sym, ◌∙◌, ap, refl, arith, add-one, Bool, true, false, not, ◌&&◌, List, [], ◌∷◌, leb, eqb, leb-true, Map, cases, and_left, and_right, Timed, Cache, holds, put, State, Limits, Cached, with_cache, CoreOf, cache_fits, Sizes, AtRest}
+use Rattle.std.proofs.Common.{is_some}
 use Rattle.std.proofs.Math.Path.{subst}
 use mir.Val.{bool_byte}
 use Rattle.storage.specs.Lists.Base.{sum}
-use Rattle.storage.specs.Lists.Map.{Map, lookup}
-use Rattle.storage.proofs.ListsLaws.MapLaws.{cases, and_left, and_right}
+use Rattle.storage.specs.Lists.Map.{lookup}
 use Rattle.storage.proofs.ListsLaws.Branches.{if-both}
-use Rattle.time_cache.specs.TimeCache.{Timed, Cache, value_of, get, holds, put}
-use Rattle.protocol.specs.State.{State, Limits, Cached, with_cache}
-use Rattle.protocol.specs.Consistent.{CoreOf}
-use Rattle.protocol.specs.Whole.{fits, cache_fits, content_held}
-use Rattle.decide.specs.Sizes.{Sizes, sizes_of, grown}
+use Rattle.time_cache.specs.TimeCache.{value_of, get}
+use Rattle.protocol.specs.Whole.{fits, content_held}
+use Rattle.decide.specs.Sizes.{sizes_of, grown}
 use Rattle.decide.proofs.SizesAfter.{content_length}
 use Rattle.decide.specs.Settled.{settled}
 use Rattle.decide.specs.StateAfter.{first_state, taken_state}
@@ -19,7 +17,6 @@ use Rattle.decide.proofs.Broadcast.{content-put}
 use Rattle.decide.proofs.GraftSendGraft.{length-put, expiry-put}
 use Rattle.decide.proofs.SettledLaws.{evicted}
 use Rattle.protocol.specs.Ticks.{evict}
-use Rattle.block.specs.Panels.{AtRest}
 use Rattle.steps.specs.Shared.{sizes_value}
 use Rattle.steps.specs.TakeIn.{Takes}
 use Rattle.steps.specs.declared.Sizes.{Sizes as CodeSizes}

@@ -1,16 +1,13 @@
 -- A message taken in: the times fit a word, and the two inserts are the step.
 -- Assumes nothing.
-use Rattle.std.proofs.Common.{◌≡◌, sym, ap, ◌∙◌, subst, Bool, true, ◌&&◌, List, ℕ, ◌+◌, ◌*◌, ◌≤◌, ◌^◌, leb-true, leb, length}
-use Rattle.storage.proofs.ListsLaws.MapLaws.{and_left, and_right}
-use Rattle.time_cache.specs.TimeCache.{Cache, put}
-use Rattle.protocol.specs.State.{State, Settings, durations_in_range}
+use Rattle.steps.proofs.Words.{◌≡◌, sym, ap, ◌∙◌, Bool, true, ◌&&◌, List, ℕ, ◌+◌, ◌*◌, ◌≤◌, ◌^◌, leb-true, leb, length, and_left, and_right, Cache, put, State, Settings, Ranged, AtRest}
+use Rattle.std.proofs.Common.{subst}
+use Rattle.protocol.specs.State.{durations_in_range}
 use Rattle.protocol.specs.Whole.{cache_fits, content_held}
-use Rattle.protocol.specs.Consistent.{Ranged}
 use Rattle.decide.specs.StateAfter.{taken_state}
 use Rattle.block.specs.Sound.{held}
 use Rattle.block.specs.Caches.InBlock.{InOrder, AtMost, received_also}
 use Rattle.block.specs.Contents.CacheSteps.{message, cached_also}
-use Rattle.block.specs.Panels.{AtRest}
 use Rattle.steps.specs.TakeIn.{Takes}
 use Rattle.steps.proofs.AtRestLaws.{cached-order}
 

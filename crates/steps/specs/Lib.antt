@@ -8,3 +8,5 @@ pub mod LazyPush
 pub mod TakeIn
 pub mod Asked
 pub mod Groups
+pub mod Grafted
+pub mod LinkSets

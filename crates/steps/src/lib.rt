@@ -5,6 +5,7 @@ pub mod call;
 pub mod graft_out;
 pub mod groups;
 pub mod lazy_push;
+pub mod link_set;
 pub mod lookups;
 pub mod message_cache;
 pub mod note_dropped;

@@ -1,18 +1,16 @@
 // What a first event finds once it has evicted, read from the block as it stands before: the specification, "the first other event evicts and schedules EvictCache
 // before anything else". Where `init` is set, nothing is evicted.
-ghost use Rattle.std.specs.Prelude.{◌≡◌, ◌&&◌, ◌*◌, ◌≤◌, ◌<◌, leb, length, get_or};
+ghost use Rattle.std.specs.Prelude.{◌≡◌, ◌<◌, length, get_or};
 ghost use Rattle.storage.specs.Lists.Base.{sum};
 ghost use Rattle.storage.specs.Lists.Map.{Entry};
 ghost use Rattle.storage.specs.Rows.Ident.{id_of};
 ghost use Rattle.time_cache.specs.TimeCache.{Timed, holds, get};
 ghost use Rattle.time_cache.specs.Tables.{cache_at, Lies, Sound as SoundCache};
-ghost use Rattle.block.specs.View.{limits_of};
-ghost use Rattle.block.specs.Fit.{Ceilings};
 ghost use Rattle.block.specs.Caches.InBlock.{InOrder};
 ghost use Rattle.block.specs.Panels.{AtRest};
 ghost use Rattle.block.specs.Views.{shown};
 ghost use Rattle.protocol.specs.Ticks.{evict};
-ghost use Rattle.decide.specs.Sizes.{sizes_of, fit_sizes};
+ghost use Rattle.decide.specs.Sizes.{sizes_of};
 ghost use Rattle.decide.specs.Settled.{settled};
 ghost use Rattle.steps.specs.Shared.{EntryIs, sizes_value};
 ghost use Rattle.steps.specs.Settled.Then.{no_held, no_cached, left_then, later_bytes};
@@ -21,7 +19,6 @@ use crate::Sizes;
 use block::caches::cached::MessageCache;
 use block::caches::grafted::GraftedMessages;
 use block::caches::received::ReceivedMessages;
-use block::head::Limits;
 use block::panel::View;
 use block::time_caches::PanelCache;
 use postcard::units::Millis;
@@ -46,7 +43,7 @@ fn cached_expires(view: &View, i: usize) -> Millis
     ensures { result.0 ≡ (get_or (shown view.now).cache.entries i no_cached).value.expires }
 {
     let row = view.cached_row(i);
-    MessageCache::table(view.head).expires(view.block, row)
+    MessageCache::table(view).expires(view.block, row)
 }
 
 // The entry of a key that is there then, by its number in the cache as it stands.
@@ -77,13 +74,7 @@ pub fn find_then<C: PanelCache>(view: &View, instant: Millis, id: Id) -> Option<
     requires { InOrder (C.of (shown view.now)) }
     ensures { (d : Entry (Timed C.Value)) → EntryIs d (C.of (shown view.now)).entries (id_of id) (get (id_of id) (left_then view.now.head.now.live.init instant.0 (C.of (shown view.now)))) result }
 {
-    held_then(
-        C::table(view.head),
-        view.block,
-        view.head.live.init,
-        instant,
-        id,
-    )
+    held_then(C::table(view), view.block, view.head.live.init, instant, id)
 }
 
 // The numbers of entries as they stand.
@@ -159,29 +150,4 @@ pub fn sizes_then(view: &View, instant: Millis) -> Sizes
         return sizes_now(view);
     }
     later_sizes(view, instant)
-}
-
-// Whether a time cache is within its limit: "Expiry entries: 2R, 2C, 2G".
-fn cache_fits(limit: usize, entries: usize, rows: usize) -> bool
-    requires { limit ≤ 2048 }
-    ensures { result ≡ (leb entries limit && leb rows (2 * limit)) }
-{
-    entries <= limit && rows <= 2 * limit
-}
-
-// (13) "Is the state after the call within every limit?", of the numbers of entries after it.
-#[tactic(auto, unfolding(decide::specs::Sizes::fit_sizes))]
-pub fn fit(limits: Limits, sizes: Sizes) -> bool
-    requires { Ceilings (limits_of limits) }
-    ensures { result ≡ fit_sizes (limits_of limits) (sizes_value sizes) }
-{
-    sizes.links <= limits.neighbours
-        && cache_fits(limits.received, sizes.received, sizes.received_rows)
-        && cache_fits(limits.cached, sizes.cached, sizes.cached_rows)
-        && sizes.contents <= limits.content
-        && cache_fits(limits.grafted, sizes.grafted, sizes.grafted_rows)
-        && sizes.missing <= limits.missing
-        && sizes.timers <= limits.timers
-        && sizes.queued <= limits.queued
-        && sizes.dropped <= limits.dropped
 }

@@ -1,13 +1,8 @@
 -- Tests of all elements of a list: told one by one, and put together of two tests.
 -- Assumes nothing.
-use Rattle.std.proofs.Common.{◌≡◌, refl, sym, ap, ◌∙◌, Bool, true, false, ◌&&◌, List, [], ◌∷◌, ◌++◌, ℕ, suc, ◌+◌, ◌-◌, ◌*◌, ◌≤◌, ◌<◌, zero-le, suc-le-suc, add-one, arith, length, take, drop, get_or, length-drop, take-suc, take_all}
+use Rattle.whole.proofs.Words.{◌≡◌, refl, sym, ap, ◌∙◌, Bool, true, false, ◌&&◌, List, [], ◌∷◌, ◌++◌, ℕ, suc, ◌+◌, ◌-◌, ◌*◌, ◌≤◌, ◌<◌, zero-le, suc-le-suc, add-one, arith, length, take, drop, get_or, length-drop, take-suc, take_all, cases, true≢, all-at, rows, part-part, length_part, part-between, get_d_rows, row-end}
 use Rattle.storage.specs.Lists.Base.{all}
-use Rattle.storage.proofs.ListsLaws.MapLaws.{cases, true≢}
-use Rattle.storage.proofs.ListsLaws.Places.{all-at}
 use Rattle.storage.specs.Rows.Part.{part}
-use Rattle.storage.specs.Rows.Rows.{rows}
-use Rattle.storage.proofs.RowsLaws.Parts.{part-part, length_part, part-between}
-use Rattle.storage.proofs.RowsLaws.Rows.{get_d_rows, row-end}
 
 pub and-true : (a : Bool) → (a && true) ≡ a
 and-true true = refl

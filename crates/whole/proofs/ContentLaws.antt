@@ -1,22 +1,14 @@
 -- Contents of cached messages: that they adjoin, told row by row, and that the lengths of the rows that entries name are those of the messages' contents.
 -- Assumes nothing.
-use Rattle.std.proofs.Common.{◌≡◌, refl, sym, ap, ◌∙◌, subst, Bool, true, false, ◌&&◌, List, [], ◌∷◌, ◌++◌, map, ℕ, zero, suc, ◌+◌, ◌*◌, ◌≤◌, ◌<◌, add-one, arith, eq-eqb, ne_eqb, eqb, lit<, length, take, drop, get_or, drop_of_length-le, drop-cons, take-suc}
+use Rattle.whole.proofs.Words.{◌≡◌, refl, sym, ap, ◌∙◌, subst, Bool, true, false, ◌&&◌, List, [], ◌∷◌, ◌++◌, map, ℕ, zero, suc, ◌+◌, ◌*◌, ◌≤◌, ◌<◌, add-one, arith, eq-eqb, ne_eqb, eqb, lit<, length, take, drop, get_or, drop_of_length-le, drop-cons, take-suc, le_nat, rows, part-part, get_d_rows, Ref, refs, places, expiry_row_of, row_at, limits_of, Fit, Head, length-table}
 use Rattle.storage.specs.Lists.Base.{sum}
 use Rattle.storage.specs.Rows.Part.{part}
-use Rattle.storage.specs.Rows.Digits.{le_nat}
-use Rattle.storage.specs.Rows.Rows.{rows}
-use Rattle.storage.proofs.RowsLaws.Parts.{part-part}
-use Rattle.storage.proofs.RowsLaws.Rows.{get_d_rows}
-use Rattle.storage.specs.Refs.Refs.{Ref, refs, places}
-use Rattle.time_cache.specs.Tables.{expiry_row_of, expiry_rows, row_at}
+use Rattle.time_cache.specs.Tables.{expiry_rows}
 use Rattle.time_cache.proofs.ExpiryLaws.{length-expiry_rows}
 use Rattle.protocol.specs.Whole.{content_held}
-use Rattle.block.specs.View.{limits_of, four_at, cached_in, state_of}
-use Rattle.block.specs.Fit.{Fit}
+use Rattle.block.specs.View.{four_at, cached_in, state_of}
 use Rattle.block.specs.Sound.{adjoin}
 use Rattle.block.specs.Contents.Starts.{len_of}
-use Rattle.block.specs.declared.head.Head.{Head}
-use Rattle.block.proofs.Tables.{length-table}
 use Rattle.block.proofs.ContentsLaws.RowsAdjoin.{len-bytes, of-adjoin}
 use Rattle.block.proofs.ContentsLaws.Contents.{held-lens}
 use Rattle.block.proofs.ContentsLaws.Sums.{sum-places}

@@ -1,23 +1,17 @@
 -- Creation: its four questions in order, and the block that it leaves.
 -- Assumes nothing.
-use Rattle.std.proofs.Common.{◌≡◌, refl, ap, ◌∙◌, subst, Bool, true, false, ◌&&◌, List, ℕ, ◌≤◌, ◌<◌, arith, le-leb, leb-true, leb-false, leb, lit<, length, drop, if◌then◌else◌, Some, None}
-use borrow.Author.Tests.{lt-leb}
+use Rattle.whole.proofs.Words.{◌≡◌, refl, ap, ◌∙◌, subst, Bool, true, false, ◌&&◌, List, ℕ, ◌≤◌, ◌<◌, arith, le-leb, leb-true, leb-false, leb, lit<, length, drop, if◌then◌else◌, Some, None, lt-leb, cases, and_intro, put, length-put, drop-put, Limits, Settings, Created, created, not_created, zero_counts, size_in_range, durations_in_range, limits_in_range, tables, settings_of, limits_of, Head}
 use lib.Dec.{leb-zero}
 use Rattle.storage.specs.Lists.Base.{all, sum}
-use Rattle.storage.proofs.ListsLaws.MapLaws.{cases, and_intro}
-use Rattle.storage.specs.Rows.Part.{put}
 use Rattle.storage.specs.Rows.Rows.{rows}
-use Rattle.storage.proofs.RowsLaws.Parts.{length-put, drop-put}
 use Rattle.storage.specs.Refs.Refs.{refs}
 use Rattle.time_cache.specs.Tables.{cache_of, expiry_rows}
-use Rattle.protocol.specs.State.{Limits, Settings, Created, created, not_created, create, fresh, zero_counts, size_in_range, durations_in_range, limits_in_range, block_need}
+use Rattle.protocol.specs.State.{create, fresh, block_need}
 use Rattle.protocol.specs.Whole.{content_held}
 use Rattle.protocol.proofs.CreatedWhole.{fresh-whole}
-use Rattle.block.specs.Layout.{tables}
-use Rattle.block.specs.View.{settings_of, limits_of, state_of, links_in, notes_in, missing_in, received_in, grafted_in, cached_in, timers_in}
+use Rattle.block.specs.View.{state_of, links_in, notes_in, missing_in, received_in, grafted_in, cached_in, timers_in}
 use Rattle.storage.specs.Refs.Numbers.{numbered, pairs}
 use Rattle.block.specs.Header.{word_at, head_bytes, Stored}
-use Rattle.block.specs.declared.head.Head.{Head}
 use Rattle.block.specs.declared.head.Settings.{Settings as HeadSettings}
 use Rattle.block.specs.declared.head.Limits.{Limits as HeadLimits}
 use Rattle.block.proofs.HeaderLaws.{word_back, head-words, head_words, length-head}

@@ -1,22 +1,10 @@
 -- What is known of a block that holds a state.
 -- Assumes nothing.
-use Rattle.std.proofs.Common.{Some, ◌≡◌, subst, Bool, true, ◌&&◌, List, [], ◌∷◌, ℕ, ◌*◌, ◌≤◌, arith, leb-true, eqb-true, leb, eqb, length, take, drop, get_or}
-use Rattle.storage.proofs.ListsLaws.MapLaws.{cases, true≢, and_left, and_right}
-use Rattle.storage.proofs.ListsLaws.Places.{all-at}
-use Rattle.storage.specs.Rows.Part.{part}
-use Rattle.storage.specs.Rows.Rows.{rows}
-use Rattle.storage.proofs.RowsLaws.Rows.{length-rows, get_d_rows}
-use Rattle.time_cache.proofs.Orders.{below_of}
-use Rattle.protocol.specs.State.{Limits, limits_in_range, up_to, block_need}
-use Rattle.protocol.specs.Whole.{content_held, whole}
-use Rattle.block.specs.Layout.{tables}
-use Rattle.block.specs.View.{limits_of, byte_at, view_of, state_of}
-use Rattle.block.specs.Fit.{Ceilings, WithinLimits, Fit}
-use Rattle.block.specs.Sound.{Numbered, AllNumbered, adjoin, Laid, Sound}
+use Rattle.whole.proofs.Words.{Some, ◌≡◌, subst, Bool, true, ◌&&◌, List, [], ◌∷◌, ℕ, ◌*◌, ◌≤◌, arith, leb-true, eqb-true, leb, eqb, length, take, drop, get_or, cases, true≢, and_left, and_right, all-at, part, rows, length-rows, get_d_rows, below_of, Limits, block_need, whole, tables, limits_of, byte_at, view_of, state_of, Ceilings, WithinLimits, Fit, Numbered, AllNumbered, adjoin, Laid, Sound, Head, within-need}
+use Rattle.protocol.specs.State.{limits_in_range, up_to}
+use Rattle.protocol.specs.Whole.{content_held}
 use Rattle.block.specs.Header.{head_in}
-use Rattle.block.specs.declared.head.Head.{Head}
 use Rattle.block.specs.declared.head.Live.{Live}
-use Rattle.block.proofs.Tables.{within-need}
 use Rattle.whole.specs.Held.{has_header, has_tables, counts_within, all_below, places_name, numbers_name, all_lists, laid_out, holds_with, held, whole_held, whole_block}
 use Rattle.whole.proofs.Tests.{each}
 

@@ -1,26 +1,16 @@
 -- Lists of link numbers and rounds: the tests of the numbers are those of the announcers and of the grafted peers.
 -- Assumes nothing.
-use Rattle.std.proofs.Common.{◌≡◌, refl, sym, ap, ◌∙◌, subst, Bool, true, not, ◌&&◌, List, [], ◌∷◌, map, ℕ, zero, suc, ◌*◌, ◌≤◌, ◌<◌, zero-le, suc-le-suc, le_of_suc-le-suc, not-suc-le-zero, arith, leb-true, lt-ltb, le-ltb, leb, ltb, lit<, length, take, drop, get_or, length-drop, drop-drop}
-use Rattle.storage.specs.Lists.Base.{is_empty, all, ascending, once}
-use Rattle.storage.specs.Lists.Map.{Entry, keys}
-use Rattle.storage.proofs.ListsLaws.MapLaws.{and_left, and_right}
+use Rattle.whole.proofs.Words.{◌≡◌, refl, sym, ap, ◌∙◌, subst, Bool, true, not, ◌&&◌, List, [], ◌∷◌, map, ℕ, zero, suc, ◌*◌, ◌≤◌, ◌<◌, zero-le, suc-le-suc, le_of_suc-le-suc, not-suc-le-zero, arith, leb-true, lt-ltb, le-ltb, leb, ltb, lit<, length, take, drop, get_or, length-drop, drop-drop, is_empty, all, ascending, once, Entry, and_left, and_right, rows, length_part, length-rows, get_d_rows, row-end, ExpiryRow, expiry_rows, entry_of, Hop, neighbours, limits_of, byte_at, peer_of, Fit, Head, count-peers, length-table}
+use Rattle.storage.specs.Lists.Map.{keys}
 use Rattle.storage.proofs.ListsLaws.ListLaws.{all_map}
-use Rattle.storage.specs.Rows.Rows.{rows}
-use Rattle.storage.proofs.RowsLaws.Parts.{length_part}
-use Rattle.storage.proofs.RowsLaws.Rows.{length-rows, get_d_rows, row-end}
 use Rattle.storage.specs.Refs.Refs.{ref_of, refs}
-use Rattle.time_cache.specs.Tables.{ExpiryRow, expiry_rows, entry_of, cache_of}
+use Rattle.time_cache.specs.Tables.{cache_of}
 use Rattle.protocol.specs.Links.{Links}
-use Rattle.protocol.specs.State.{Hop}
-use Rattle.protocol.specs.Whole.{neighbours, announcers_whole, grafts_whole}
-use Rattle.block.specs.View.{limits_of, byte_at, peer_of, hops_in, hop_of, hops_of, missed_of, missing_in, round_of, grafts_of, grafted_in, state_of}
+use Rattle.protocol.specs.Whole.{announcers_whole, grafts_whole}
+use Rattle.block.specs.View.{hops_in, hop_of, hops_of, missed_of, missing_in, round_of, grafts_of, grafted_in, state_of}
 use Rattle.storage.specs.Refs.Numbers.{pairs, numbered}
-use Rattle.block.specs.Fit.{Fit}
 use Rattle.block.specs.LinkSteps.{LinksAscend}
-use Rattle.block.specs.declared.head.Head.{Head}
-use Rattle.block.proofs.LinkLaws.{count-peers}
 use Rattle.storage.proofs.RefsLaws.Numbered.{length-numbered}
-use Rattle.block.proofs.Tables.{length-table}
 use Rattle.whole.specs.Held.{all_below, numbers_name, all_lists}
 use Rattle.whole.specs.Parts.{table_of, graft_list, missed_list}
 use Rattle.whole.proofs.AllLaws.{and-true, all_both, both-same}

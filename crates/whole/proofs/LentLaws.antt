@@ -1,21 +1,16 @@
 -- A time cache of the block: its test is that of the tables, and its entries have their expiry entries by the layout.
 -- Assumes nothing.
-use Rattle.std.proofs.Common.{◌≡◌, sym, ap, ◌∙◌, Bool, true, ◌&&◌, List, [], ◌∷◌, map, ℕ, ◌+◌, ◌-◌, ◌*◌, ◌≤◌, ◌<◌, length, take, drop, get_or, length-drop, take-take}
-use Rattle.storage.specs.Lists.Base.{all, ascending}
+use Rattle.whole.proofs.Words.{◌≡◌, sym, ap, ◌∙◌, Bool, true, ◌&&◌, List, [], ◌∷◌, map, ℕ, ◌+◌, ◌-◌, ◌*◌, ◌≤◌, ◌<◌, length, take, drop, get_or, length-drop, take-take, all, ascending, rows, part-between, Ref, ref_of, places, ExpiryRow, expiry_row_of, cache_in, value_bytes, Limits, sizes, table, rows-table}
 use Rattle.storage.specs.Lists.Map.{keys}
 use Rattle.storage.specs.Rows.Part.{part}
-use Rattle.storage.specs.Rows.Rows.{rows}
-use Rattle.storage.proofs.RowsLaws.Parts.{part-between}
 use Rattle.storage.specs.Rows.Sorted.{key_of, keys as row_keys}
-use Rattle.storage.specs.Refs.Refs.{Ref, ref_of, refs, places}
+use Rattle.storage.specs.Refs.Refs.{refs}
 use Rattle.time_cache.specs.TimeCache.{Cache, in_pop_order}
-use Rattle.time_cache.specs.Tables.{ExpiryRow, expiry_row_of, expiry_rows, cache_of, cache_in, value_bytes, sound}
+use Rattle.time_cache.specs.Tables.{expiry_rows, cache_of, sound}
 use Rattle.time_cache.proofs.TableLaws.{keys-named}
 use Rattle.time_cache.proofs.BlockLaws.{open-end}
-use Rattle.protocol.specs.State.{Limits}
-use Rattle.block.specs.Layout.{sizes, place, table}
+use Rattle.block.specs.Layout.{place}
 use Rattle.block.proofs.Cut.{cut-part}
-use Rattle.block.proofs.Tables.{rows-table}
 use Rattle.whole.specs.Held.{all_below, places_name, all_lists}
 use Rattle.block.specs.TimeCaches.{cache_from}
 use Rattle.whole.specs.Parts.{cache_whole}

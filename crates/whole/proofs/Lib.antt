@@ -11,3 +11,4 @@ pub mod HopLaws
 pub mod RecordLaws
 pub mod WholeLaws
 pub mod StatesLaws
+pub mod Words

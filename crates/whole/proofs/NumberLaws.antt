@@ -1,19 +1,14 @@
 -- Lists of link numbers: below a bound and ascending, or each once; and what they tell of the peers that the numbers stand for.
 -- Assumes nothing.
-use Rattle.std.proofs.Common.{◌≡◌, refl, sym, ap, ◌∙◌, subst, ◌⊎◌, inl, inr, Bool, true, false, not, ◌&&◌, List, [], ◌∷◌, map, ℕ, ◌+◌, ◌-◌, ◌≤◌, ◌<◌, zero-le, eq-or-lt_of_le, arith, ltb-true, lt-ltb, le-ltb, eq-eqb, ne_eqb, ltb, eqb, length, get_or}
+use Rattle.whole.proofs.Words.{◌≡◌, refl, sym, ap, ◌∙◌, subst, ◌⊎◌, inl, inr, Bool, true, false, not, ◌&&◌, List, [], ◌∷◌, map, ℕ, ◌+◌, ◌-◌, ◌≤◌, ◌<◌, zero-le, eq-or-lt_of_le, arith, ltb-true, lt-ltb, le-ltb, eq-eqb, ne_eqb, ltb, eqb, length, get_or, cases, and_left, and_right, and_intro, all_head, all_tail, once-of, of-once, up_of, of-up, below_of, of-below, peer_of, neighbour-here}
 use Rattle.storage.specs.Lists.Base.{all, member, ascending, once}
 use Rattle.storage.specs.Lists.Map.{keys}
-use Rattle.storage.proofs.ListsLaws.MapLaws.{cases, and_left, and_right, and_intro, all_head, all_tail}
-use Rattle.storage.proofs.ListsLaws.Places.{once-of, of-once}
 use Rattle.storage.proofs.RowsLaws.Ids.{tri}
 use Rattle.storage.proofs.RowsLaws.Sorted.{AscendTo, ascend-start, ascend-more, ascend-done, ascend-not}
 use Rattle.storage.specs.Refs.Once.{TellsNumbers}
 use Rattle.storage.proofs.RefsLaws.Places.{BelowTo, below_more}
-use Rattle.time_cache.proofs.Orders.{up_of, of-up, below_of, of-below}
 use Rattle.protocol.specs.Links.{Links}
 use Rattle.protocol.specs.Whole.{neighbours}
-use Rattle.block.specs.View.{peer_of}
-use Rattle.block.proofs.LinkLaws.{neighbour-here}
 use Rattle.whole.specs.Held.{all_below}
 use Rattle.whole.proofs.AllLaws.{cons-all}
 

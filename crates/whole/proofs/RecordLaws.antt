@@ -1,34 +1,20 @@
 -- The record: how often a link number stands is how many notes its peer has, and numbers and identifiers that stand once are notes that do.
 -- Assumes nothing.
-use Rattle.std.proofs.Common.{◌≡◌, refl, sym, ap, ◌∙◌, subst, ◌⊎◌, inl, inr, Bool, true, false, not, ◌&&◌, List, [], ◌∷◌, map, ℕ, zero, suc, ◌+◌, ◌*◌, ◌≤◌, ◌<◌, zero-le, suc-le-suc, le_of_suc-le-suc, not-suc-le-zero, add-zero, add-one, arith, ltb-true, le-leb, eqb-true, eq-eqb, ne_eqb, leb, ltb, eqb, lit<, length, take, drop, get_or, set, replicate, length-set, take-append-drop, take-suc, take_all, length-take-le, get_or-set_same, get_or-set_other}
-use borrow.Author.Tests.{lt-leb, not-true}
-use Rattle.storage.specs.Lists.Base.{all, any, count, ascending}
+use Rattle.whole.proofs.Words.{◌≡◌, refl, sym, ap, ◌∙◌, subst, ◌⊎◌, inl, inr, Bool, true, false, not, ◌&&◌, List, [], ◌∷◌, map, ℕ, zero, suc, ◌+◌, ◌*◌, ◌≤◌, ◌<◌, zero-le, suc-le-suc, le_of_suc-le-suc, not-suc-le-zero, add-zero, add-one, arith, ltb-true, le-leb, eqb-true, eq-eqb, ne_eqb, leb, ltb, eqb, lit<, length, take, drop, get_or, set, replicate, length-set, take-append-drop, take-suc, take_all, length-take-le, get_or-set_same, get_or-set_other, lt-leb, not-true, ascending, cases, true≢, and_left, and_right, and_intro, all_head, all_tail, at_all, part, be_nat, rows, part-part, length-rows, get_d_rows, below_of, Note, limits_of, peer_of, Fit, Head, count-peers, length-table}
+use Rattle.storage.specs.Lists.Base.{all, any, count}
 use Rattle.storage.specs.Lists.Map.{keys}
-use Rattle.storage.proofs.ListsLaws.MapLaws.{cases, true≢, and_left, and_right, and_intro, all_head, all_tail}
 use Rattle.storage.proofs.ListsLaws.ListLaws.{all_map, count-append, count-length}
-use Rattle.storage.proofs.ListsLaws.Places.{at_all}
-use Rattle.storage.specs.Rows.Part.{part}
-use Rattle.storage.specs.Rows.Digits.{be_nat}
-use Rattle.storage.specs.Rows.Rows.{rows}
 use Rattle.storage.proofs.RowsLaws.Ids.{tri}
-use Rattle.storage.proofs.RowsLaws.Parts.{part-part}
-use Rattle.storage.proofs.RowsLaws.Rows.{length-rows, get_d_rows}
 use Rattle.storage.specs.Buckets.{Once, TellsOnce, id_at as note_id}
 use Rattle.time_cache.proofs.CacheLaws.{eqb-sym}
-use Rattle.time_cache.proofs.Orders.{below_of}
 use Rattle.protocol.specs.Links.{Links}
-use Rattle.protocol.specs.State.{Note}
 use Rattle.protocol.specs.Push.{for_peer, notes}
 use Rattle.protocol.specs.Whole.{noted_once, record_within}
-use Rattle.block.specs.View.{limits_of, peer_of, id_at, note_of, notes_in, state_of}
+use Rattle.block.specs.View.{id_at, note_of, notes_in, state_of}
 use Rattle.storage.specs.Refs.Numbers.{pairs, numbered}
-use Rattle.block.specs.Fit.{Fit}
 use Rattle.block.specs.LinkSteps.{LinksAscend}
 use Rattle.block.specs.NoteSteps.{note}
-use Rattle.block.specs.declared.head.Head.{Head}
-use Rattle.block.proofs.LinkLaws.{count-peers}
 use Rattle.storage.proofs.RefsLaws.Numbered.{length-numbered, pairs-at}
-use Rattle.block.proofs.Tables.{length-table}
 use Rattle.whole.specs.Held.{all_below}
 use Rattle.whole.specs.Parts.{table_of, few, record_whole}
 use Rattle.whole.proofs.AllLaws.{and-true, all-not, cons-all}

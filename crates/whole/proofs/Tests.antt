@@ -1,8 +1,6 @@
 -- Tests of several parts, and of every element of a list.
 -- Assumes nothing.
-use Rattle.std.proofs.Common.{◌≡◌, refl, sym, ◌∙◌, Bool, true, false, not, ◌&&◌, List, [], ◌∷◌, ℕ, zero, suc, get_or}
-use borrow.Author.Tests.{not-true, not-false}
-use Rattle.storage.proofs.ListsLaws.MapLaws.{and_left, and_right, and_intro}
+use Rattle.whole.proofs.Words.{◌≡◌, refl, sym, ◌∙◌, Bool, true, false, not, ◌&&◌, List, [], ◌∷◌, ℕ, zero, suc, get_or, not-true, not-false, and_left, and_right, and_intro}
 
 -- b and all the others
 abbrev pub conj : Bool → List Bool → Bool

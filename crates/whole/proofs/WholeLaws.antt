@@ -1,32 +1,20 @@
 -- Question 5 is the tests of the header's numbers and of the tables: each follows from the others.
 -- Assumes nothing.
-use Rattle.std.proofs.Common.{◌≡◌, refl, sym, ap, ◌∙◌, subst, Bool, true, false, ◌&&◌, ◌||◌, List, [], ◌∷◌, map, ℕ, zero, suc, ◌*◌, ◌≤◌, zero-le, arith, leb-true, le-leb, eqb-true, eq-eqb, ne_eqb, leb, eqb, lit<, length, take, drop, take-take, if◌then◌else◌, Some, None}
+use Rattle.whole.proofs.Words.{◌≡◌, refl, sym, ap, ◌∙◌, subst, Bool, true, false, ◌&&◌, ◌||◌, List, [], ◌∷◌, map, ℕ, zero, suc, ◌*◌, ◌≤◌, zero-le, arith, leb-true, le-leb, eqb-true, eq-eqb, ne_eqb, leb, eqb, lit<, length, take, drop, take-take, if◌then◌else◌, Some, None, is_empty, all, ascending, cases, true≢, and_left, and_right, and_intro, rows, length-rows, refs, places, expiry_row_of, expiry_of, entry_of, cache_in, State, Limits, Note, size_in_range, durations_in_range, limits_in_range, block_need, content_held, neighbours, announcers_whole, grafts_whole, noted_once, record_within, tables, settings_of, limits_of, peer_of, missed_of, id_at, nothing_of, cached_of, grafts_of, Fit, WithinLimits, Head, count-links, count-peers, length-view, length-table, adjoin}
 use lib.ListN.{length-map}
-use Rattle.storage.specs.Lists.Base.{is_empty, all, ascending}
 use Rattle.storage.specs.Lists.Map.{keys}
-use Rattle.storage.proofs.ListsLaws.MapLaws.{cases, true≢, and_left, and_right, and_intro}
 use Rattle.storage.specs.Rows.Part.{part}
 use Rattle.storage.specs.Rows.Digits.{le_nat}
-use Rattle.storage.specs.Rows.Rows.{rows}
-use Rattle.storage.proofs.RowsLaws.Rows.{length-rows}
-use Rattle.storage.specs.Refs.Refs.{refs, places}
 use Rattle.storage.proofs.RefsLaws.Places.{length-refs}
 use Rattle.time_cache.specs.TimeCache.{expires_on_time, in_pop_order}
-use Rattle.time_cache.specs.Tables.{expiry_row_of, expiry_rows, expiry_of, entry_of, cache_of, cache_in}
+use Rattle.time_cache.specs.Tables.{expiry_rows, cache_of}
 use Rattle.time_cache.proofs.TableLaws.{on-time}
-use Rattle.protocol.specs.State.{State, Limits, Note, size_in_range, durations_in_range, limits_in_range, block_need}
-use Rattle.protocol.specs.Whole.{content_held, cache_fits, fits, in_range, keys_once, neighbours, announcers_whole, grafts_whole, noted_once, record_within, flags_stand, whole}
-use Rattle.block.specs.Layout.{tables}
-use Rattle.block.specs.View.{settings_of, limits_of, state_of, peer_of, note_of, notes_in, missed_of, missing_in, id_at, timers_in, nothing_of, received_in, cached_of, cached_in, grafts_of, grafted_in}
+use Rattle.protocol.specs.Whole.{cache_fits, fits, in_range, keys_once, flags_stand, whole}
+use Rattle.block.specs.View.{state_of, note_of, notes_in, missing_in, timers_in, received_in, cached_in, grafted_in}
 use Rattle.storage.specs.Refs.Numbers.{numbered}
-use Rattle.block.specs.Fit.{Fit, WithinLimits}
 use Rattle.block.specs.Header.{word_at, half_word_at, head_in}
-use Rattle.block.specs.declared.head.Head.{Head}
 use Rattle.block.specs.declared.head.Live.{Live}
-use Rattle.block.proofs.LinkLaws.{count-links, count-peers}
 use Rattle.storage.proofs.RefsLaws.Numbered.{length-numbered}
-use Rattle.block.proofs.Tables.{length-view, length-table}
-use Rattle.block.specs.Sound.{adjoin}
 use Rattle.whole.specs.Held.{has_header, has_tables, counts_within, all_below, places_name, numbers_name, all_lists, laid_out, holds_with, held, whole_held, whole_block}
 use Rattle.whole.specs.Parts.{table_of, cache_whole, links_whole, received_whole, cached_whole, grafted_peers, grafted_whole, announcers, missing_whole, timers_whole, queue_whole, record_whole, tables_whole, flags_with, head_whole}
 use Rattle.whole.proofs.Tests.{conj, Each, each, from_each, picks, both_ways}

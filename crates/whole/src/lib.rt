@@ -14,6 +14,7 @@ ghost use Rattle.whole.specs.Parts.{flags_with, head_whole};
 
 use block::head::{HEADER_SIZE, Head, Limits, Live};
 use block::header;
+use block::layout::Layout;
 use storage::rows::word;
 use tables::Tables;
 
@@ -79,7 +80,12 @@ fn head_whole(head: &Head, block: &[u8]) -> bool
         && create::size_in_range(head.settings)
         && create::durations_in_range(head.settings)
         && flags_stand(head.live)
-        && Tables { head, block }.tables_whole()
+        && Tables {
+            head,
+            layout: &Layout::of(head.limits),
+            block,
+        }
+        .tables_whole()
 }
 
 // (5) "Is the block whole?"

@@ -6,7 +6,9 @@ ghost use Rattle.std.proofs.Props.{props};
 ghost use Rattle.storage.specs.Lists.Base.{ascending, sum};
 ghost use Rattle.storage.specs.Rows.Rows.{rows};
 ghost use Rattle.storage.specs.Refs.Refs.{refs, places, Below};
+ghost use Rattle.block.specs.View.{limits_of};
 ghost use Rattle.block.specs.Fit.{Fit};
+ghost use Rattle.block.specs.Layouts.{LaysOut};
 ghost use Rattle.block.specs.Sound.{adjoin};
 ghost use Rattle.whole.specs.Held.{all_below, all_lists};
 ghost use Rattle.whole.specs.Parts.{length_at, graft_list, missed_list, few};
@@ -17,21 +19,24 @@ use block::caches::received::ReceivedMessages;
 use block::caches::{cached, grafted};
 use block::head::{Head, MAX_LINKS};
 use block::hops::Hops;
+use block::layout::{Layout, Table};
+use block::links;
 use block::missing::Missed;
 use block::time_caches::PanelCache;
-use block::{head, links};
 use protocol::MAX_DROPPED_PER_PEER;
 use storage::rows::id::Id;
 use storage::rows::{table, word};
 use storage::tables::Row;
 use storage::{notes, refs};
 
-// A header and the block beside it, in which the tables lie: all that is known of them before question 5 is answered.
+// A header and the block beside it, in which the tables lie by their layout: all that is known of them before question 5 is answered.
 #[derive(Clone, Copy)]
 pub struct Tables<'a> {
     pub head: &'a Head,
+    pub layout: &'a Layout,
     pub block: &'a [u8],
     ghost fit: { Fit head.now block.now } by { Prim.hlevel props },
+    ghost laid_out: { LaysOut layout.now (limits_of head.now.limits) } by { Prim.hlevel props },
 }
 
 // A byte as a number that can be an index.
@@ -162,16 +167,25 @@ fn few_each(numbers: &[u8]) -> bool
 impl<'a> Tables<'a> {
     ghost use Rattle.std.specs.Prelude.{◌≡◌, ◌<◌, true};
     ghost use Rattle.protocol.specs.Whole.{record_within, noted_once};
+    ghost use Rattle.block.specs.Layout.{place};
+    ghost use Rattle.block.specs.Layouts.{number};
     ghost use Rattle.block.specs.View.{state_of};
     ghost use Rattle.block.specs.LinkSteps.{LinksAscend, peer_at};
     ghost use Rattle.whole.specs.Parts.{links_whole, received_whole, cached_in_order, contents_adjoin, contents_used, cached_whole, grafted_in_order, grafted_peers, grafted_whole, missing_once, announcers, missing_whole, timers_whole, queue_whole, dropped_named, record_whole, tables_whole};
+
+    // Where a table starts.
+    fn start(&self, table: Table) -> usize
+        ensures { result ≡ place (limits_of self.now.head.now.limits) (number table) }
+    {
+        self.layout.start(table)
+    }
 
     // The peer of link i.
     fn peer_at(&self, i: usize) -> u64
         requires { i < self.now.head.now.live.links }
         ensures { result ≡ peer_at (state_of self.now.head.now self.now.block.now) i }
     {
-        links::load_link(self.head, self.block, i).peer
+        links::load_link(self.head, self.layout, self.block, i).peer
     }
 
     // "keys once": the peers of the links ascend.
@@ -190,21 +204,21 @@ impl<'a> Tables<'a> {
     pub fn received_whole(&self) -> bool
         ensures { result ≡ received_whole self.now.head.now self.now.block.now }
     {
-        ReceivedMessages::table(self.head).is_sound(self.block)
+        ReceivedMessages::tables(self.head, self.layout).is_sound(self.block)
     }
 
     // The message cache: places name rows, keys once, rows in pop order.
     fn cached_in_order(&self) -> bool
         ensures { result ≡ cached_in_order self.now.head.now self.now.block.now }
     {
-        MessageCache::table(self.head).is_sound(self.block)
+        MessageCache::tables(self.head, self.layout).is_sound(self.block)
     }
 
     // The contents of the cached rows adjoin.
     fn contents_adjoin(&self) -> bool
         ensures { result ≡ contents_adjoin self.now.head.now self.now.block.now }
     {
-        let rows_at = head::cached_rows_at(self.head.limits);
+        let rows_at = self.start(Table::CachedRows);
         adjoin(
             &self.block[rows_at..],
             self.head.live.cached_rows,
@@ -218,8 +232,8 @@ impl<'a> Tables<'a> {
         requires contents_adjoin { contents_adjoin self.now.head.now self.now.block.now ≡ true }
         ensures { result ≡ contents_used self.now.head.now self.now.block.now }
     {
-        let at = head::cached_at(self.head.limits);
-        let rows_at = head::cached_rows_at(self.head.limits);
+        let at = self.start(Table::Cached);
+        let rows_at = self.start(Table::CachedRows);
         let total = named_lengths(
             &self.block[at..],
             self.head.live.cached,
@@ -241,7 +255,7 @@ impl<'a> Tables<'a> {
     fn grafted_in_order(&self) -> bool
         ensures { result ≡ grafted_in_order self.now.head.now self.now.block.now }
     {
-        GraftedMessages::table(self.head).is_sound(self.block)
+        GraftedMessages::tables(self.head, self.layout).is_sound(self.block)
     }
 
     // "grafted peers are neighbours, once per identifier"
@@ -249,7 +263,7 @@ impl<'a> Tables<'a> {
         requires { LinksAscend self.now.head.now self.now.block.now }
         ensures { result ≡ grafted_peers self.now.head.now self.now.block.now }
     {
-        let at = head::grafted_at(self.head.limits);
+        let at = self.start(Table::Grafted);
         let links = self.head.live.links;
         lists_pass(
             &self.block[at..],
@@ -272,7 +286,7 @@ impl<'a> Tables<'a> {
     fn missing_once(&self) -> bool
         ensures { result ≡ missing_once self.now.head.now self.now.block.now }
     {
-        let at = head::missing_at(self.head.limits);
+        let at = self.start(Table::Missing);
         table::ascending(&self.block[at..], Missed::WIDTH, self.head.live.missing)
     }
 
@@ -281,7 +295,7 @@ impl<'a> Tables<'a> {
         requires { LinksAscend self.now.head.now self.now.block.now }
         ensures { result ≡ announcers self.now.head.now self.now.block.now }
     {
-        let at = head::missing_at(self.head.limits);
+        let at = self.start(Table::Missing);
         let links = self.head.live.links;
         lists_pass(
             &self.block[at..],
@@ -304,7 +318,7 @@ impl<'a> Tables<'a> {
     pub fn timers_whole(&self) -> bool
         ensures { result ≡ timers_whole self.now.head.now self.now.block.now }
     {
-        let at = head::timers_at(self.head.limits);
+        let at = self.start(Table::Timers);
         table::ascending(&self.block[at..], Id::WIDTH, self.head.live.timers)
     }
 
@@ -312,7 +326,7 @@ impl<'a> Tables<'a> {
     pub fn queue_whole(&self) -> bool
         ensures { result ≡ queue_whole self.now.head.now self.now.block.now }
     {
-        let at = head::queue_at(self.head.limits);
+        let at = self.start(Table::Queue);
         numbers_below(
             &self.block[at..at + self.head.live.queued],
             self.head.live.links as u8,
@@ -323,7 +337,7 @@ impl<'a> Tables<'a> {
     fn dropped_named(&self) -> bool
         ensures { result ≡ dropped_named self.now.head.now self.now.block.now }
     {
-        let at = head::dropped_at(self.head.limits);
+        let at = self.start(Table::Record);
         numbers_below(
             &self.block[at..at + self.head.live.dropped],
             self.head.live.links as u8,
@@ -336,7 +350,7 @@ impl<'a> Tables<'a> {
         requires named { dropped_named self.now.head.now self.now.block.now ≡ true }
         ensures { result ≡ record_within (state_of self.now.head.now self.now.block.now).dropped }
     {
-        let at = head::dropped_at(self.head.limits);
+        let at = self.start(Table::Record);
         few_each(&self.block[at..at + self.head.live.dropped])
     }
 
@@ -346,8 +360,8 @@ impl<'a> Tables<'a> {
         requires named { dropped_named self.now.head.now self.now.block.now ≡ true }
         ensures { result ≡ noted_once (state_of self.now.head.now self.now.block.now).dropped }
     {
-        let at = head::dropped_at(self.head.limits);
-        let rows_at = head::dropped_rows_at(self.head.limits);
+        let at = self.start(Table::Record);
+        let rows_at = self.start(Table::RecordRows);
         notes::once(
             &self.block[at..at + self.head.live.dropped],
             &self.block[rows_at..],

@@ -1,18 +1,14 @@
 -- The record passed entry by entry: what stands of the first i entries, what of that moves to the queue and what stays, and how many stand for each link.
 -- Assumes nothing.
-use Rattle.std.proofs.Common.{◌≡◌, refl, sym, ap, ◌∙◌, subst, ◌⊎◌, inl, inr, Bool, true, false, List, [], ◌∷◌, ◌++◌, append-nil, ℕ, zero, suc, ◌+◌, ◌≤◌, ◌<◌, zero-le, suc-le-suc, add-zero, zero-add, arith, eq-eqb, ne_eqb, lt-ltb, le-ltb, ltb, length, take, drop, get_or, set, replicate, length-set, take-append-drop, get_or-set_same, get_or-set_other, length-take-le, if◌then◌else◌}
-use Rattle.storage.specs.Lists.Base.{filter, count}
+use Rattle.announcements.proofs.Words.{◌≡◌, refl, sym, ap, ◌∙◌, subst, ◌⊎◌, inl, inr, Bool, true, false, List, [], ◌∷◌, ◌++◌, append-nil, ℕ, zero, suc, ◌+◌, ◌≤◌, ◌<◌, zero-le, suc-le-suc, add-zero, zero-add, arith, eq-eqb, ne_eqb, lt-ltb, le-ltb, ltb, length, take, drop, get_or, set, replicate, length-set, get_or-set_same, get_or-set_other, length-take-le, if◌then◌else◌, filter, cases, filter-append, count-append, count-length, length-filter, Note, for_peer, note}
+use Rattle.std.proofs.Common.{take-append-drop}
+use Rattle.storage.specs.Lists.Base.{count}
 use Rattle.storage.proofs.ListsLaws.Branches.{if-on}
-use Rattle.storage.proofs.ListsLaws.MapLaws.{cases}
-use Rattle.storage.proofs.ListsLaws.ListLaws.{filter-append, count-append, count-length, length-filter}
 use Rattle.storage.specs.Rows.Sorted.{Ascending}
 use Rattle.storage.proofs.RowsLaws.Ids.{tri}
 use Rattle.storage.proofs.ListsLaws.Firsts.{filter_more}
-use Rattle.protocol.specs.State.{Note}
-use Rattle.protocol.specs.Push.{for_peer}
 use Rattle.protocol.specs.Ticks.{oldest, younger}
 use Rattle.decide.proofs.AnnounceDropped.{moved_all}
-use Rattle.block.specs.NoteSteps.{note}
 use Rattle.block.proofs.Scans.{keys-apart}
 
 -- an entry passed counts in either part

@@ -1,25 +1,15 @@
 -- What an announcement leaves as it is, and what it keeps: limits, settings and links; that the state is consistent; and that tables grow.
 -- Assumes nothing.
-use Rattle.std.proofs.Common.{◌≡◌, refl, sym, ap, ◌∙◌, subst, true, false, List, [], ◌∷◌, ◌++◌, map, ℕ, ◌≤◌, ◌<◌, arith, length}
+use Rattle.announcements.proofs.Words.{◌≡◌, refl, sym, ap, ◌∙◌, subst, true, false, List, [], ◌∷◌, ◌++◌, map, ℕ, ◌≤◌, ◌<◌, arith, length, member, ascending, Map, keys, insert, insert_key, cases, ascending-insert, all_map, all-insert-entry, holds, Ihave, is_neighbour, State, Hop, announcers_whole, fits, peer_at}
 use lib.ListN.{length-map}
-use Rattle.storage.specs.Lists.Base.{member, ascending}
-use Rattle.storage.specs.Lists.Map.{Map, keys, insert, insert_key}
-use Rattle.storage.proofs.ListsLaws.MapLaws.{cases, ascending-insert}
-use Rattle.storage.proofs.ListsLaws.ListLaws.{all_map, all-insert-entry}
-use Rattle.time_cache.specs.TimeCache.{holds}
 use Rattle.time_cache.proofs.Orders.{up_of}
-use Rattle.postcard.specs.Message.{Ihave}
-use Rattle.protocol.specs.Links.{is_neighbour}
-use Rattle.protocol.specs.State.{State, Hop}
 use Rattle.protocol.specs.Gossips.{announcers}
 use Rattle.protocol.specs.Control.{add_announcer}
-use Rattle.protocol.specs.Whole.{announcers_whole, fits}
 use Rattle.protocol.specs.Consistent.{Consistent, Ranged}
 use Rattle.protocol.proofs.ConsistentSteps.{core-missing, core-timers}
 use Rattle.protocol.proofs.ConsistentTables.{Announcers, of-announcers, announcers-add, ascending-insert_key}
 use Rattle.protocol.proofs.WholeKept.{known-announcers}
 use Rattle.decide.specs.StateAfter.{announced_state, ihave_state}
-use Rattle.block.specs.LinkSteps.{peer_at}
 use Rattle.block.specs.MissingSteps.{hop, announced}
 use Rattle.block.specs.TimerSteps.{timer_marked}
 use Rattle.block.proofs.Few.{once-few}

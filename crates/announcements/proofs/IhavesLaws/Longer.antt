@@ -1,10 +1,8 @@
 -- Tables that grow by an entry or not at all, and the limits of a state whose missing messages and timers grow.
 -- Assumes nothing.
-use Rattle.std.proofs.Common.{◌≡◌, Bool, true, ◌&&◌, List, [], ◌∷◌, ℕ, ◌≤◌, zero-le, suc-le-suc, arith, leb-true, le-leb, leb, ltb, eqb, length}
-use Rattle.storage.specs.Lists.Map.{Map, insert, insert_key}
-use Rattle.storage.proofs.ListsLaws.MapLaws.{cases, and_left, and_right, and_intro}
-use Rattle.protocol.specs.State.{State, Hop, with_missing, with_graft_timers}
-use Rattle.protocol.specs.Whole.{content_held, cache_fits, fits}
+use Rattle.announcements.proofs.Words.{◌≡◌, Bool, true, ◌&&◌, List, [], ◌∷◌, ℕ, ◌≤◌, zero-le, suc-le-suc, arith, leb-true, le-leb, leb, ltb, eqb, length, Map, cases, and_left, and_right, and_intro, State, Hop, with_missing, with_graft_timers, cache_fits}
+use Rattle.storage.specs.Lists.Map.{insert, insert_key}
+use Rattle.protocol.specs.Whole.{content_held, fits}
 
 pub insert-longer : {A : Type 0} (k : ℕ) (v : A) (m : Map A) → length m ≤ length (insert k v m)
 unfolding insert

@@ -1,13 +1,8 @@
 -- The identifiers of a message that are not known, entry by entry.
 -- Assumes nothing.
-use Rattle.std.proofs.Common.{◌≡◌, refl, sym, ap, ◌∙◌, Bool, true, false, ◌||◌, List, [], ◌∷◌, ◌++◌, ℕ, ◌+◌, ◌≤◌, zero-le, suc-le-suc, arith, eqb, length, length-append, if◌then◌else◌}
+use Rattle.announcements.proofs.Words.{◌≡◌, refl, sym, ap, ◌∙◌, Bool, true, false, ◌||◌, List, [], ◌∷◌, ◌++◌, ℕ, ◌+◌, ◌≤◌, zero-le, suc-le-suc, arith, eqb, length, length-append, if◌then◌else◌, has, cases, holds, Ihave, State}
 use Rattle.storage.specs.Lists.Base.{any, member}
-use Rattle.storage.specs.Lists.Map.{has}
-use Rattle.storage.proofs.ListsLaws.MapLaws.{cases}
 use Rattle.storage.proofs.ListsLaws.Branches.{if-on, if-same}
-use Rattle.time_cache.specs.TimeCache.{holds}
-use Rattle.postcard.specs.Message.{Ihave}
-use Rattle.protocol.specs.State.{State}
 use Rattle.decide.specs.Settled.{settled}
 use Rattle.decide.specs.NewIds.{new_ids, known_missing, known_timer}
 use Rattle.announcements.specs.Ihaves.New.{is_for, is_old}

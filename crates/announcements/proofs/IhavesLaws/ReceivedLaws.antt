@@ -1,11 +1,7 @@
 -- An IHave whose identifiers are all received adds nothing, schedules nothing and changes nothing; and the pass that finds it out.
 -- Assumes nothing.
-use Rattle.std.proofs.Common.{◌≡◌, refl, sym, ap, ◌∙◌, Bool, true, false, ◌||◌, List, [], ◌∷◌, ℕ, ◌+◌, ◌≤◌, length, drop, drop_of_length-le}
-use Rattle.storage.specs.Lists.Base.{all, member}
-use Rattle.storage.proofs.ListsLaws.MapLaws.{all_head, all_tail}
-use Rattle.storage.proofs.ListsLaws.ListLaws.{all-imp}
-use Rattle.postcard.specs.Message.{Ihave}
-use Rattle.protocol.specs.State.{State}
+use Rattle.announcements.proofs.Words.{◌≡◌, refl, sym, ap, ◌∙◌, Bool, true, false, ◌||◌, List, [], ◌∷◌, ℕ, ◌+◌, ◌≤◌, length, drop, drop_of_length-le, member, all_head, all_tail, all-imp, Ihave, State}
+use Rattle.storage.specs.Lists.Base.{all}
 use Rattle.decide.specs.NewIds.{new_ids, known_timer}
 use Rattle.decide.specs.ActionsAfter.{ihave_actions}
 use Rattle.decide.specs.StateAfter.{ihave_state}

@@ -1,9 +1,8 @@
 -- A pass over the first entries of an IHave that looks for an identifier.
 -- Assumes nothing.
-use Rattle.std.proofs.Common.{◌≡◌, refl, sym, ap, ◌∙◌, true, false, List, [], ◌∷◌, ◌++◌, ℕ, ◌+◌, ◌≤◌, length, take, drop, take-append-drop, take_all}
+use Rattle.announcements.proofs.Words.{◌≡◌, refl, sym, ap, ◌∙◌, true, false, List, [], ◌∷◌, ◌++◌, ℕ, ◌+◌, ◌≤◌, length, take, drop, any_left, any-right, any_none, any-one, Ihave}
+use Rattle.std.proofs.Common.{take-append-drop, take_all}
 use Rattle.storage.specs.Lists.Base.{any}
-use Rattle.storage.proofs.ListsLaws.Lists.{any_left, any-right, any_none, any-one}
-use Rattle.postcard.specs.Message.{Ihave}
 use Rattle.announcements.specs.Ihaves.New.{is_for}
 
 module _ (id : ℕ) (hs : List Ihave) where

@@ -1,7 +1,6 @@
 -- A walk over the entries of an IHave: how many have been taken, and which are left.
 -- Assumes nothing.
-use Rattle.std.proofs.Common.{◌≡◌, sym, ap, ◌∙◌, List, [], ◌∷◌, ◌++◌, ℕ, ◌+◌, ◌≤◌, ◌<◌, arith, length, take, drop, length-drop, drop-drop, take-add}
-use Rattle.postcard.specs.Message.{Ihave}
+use Rattle.announcements.proofs.Words.{◌≡◌, sym, ap, ◌∙◌, List, [], ◌∷◌, ◌++◌, ℕ, ◌+◌, ◌≤◌, ◌<◌, arith, length, take, drop, length-drop, drop-drop, take-add, Ihave}
 
 -- `rest` are those after the first i
 pub record After (all rest : List Ihave) (i : ℕ) : Type 0 where

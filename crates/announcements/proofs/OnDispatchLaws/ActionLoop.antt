@@ -1,20 +1,12 @@
 -- The actions of a dispatch, link by link.
 -- Assumes nothing.
-use Rattle.std.proofs.Common.{◌≡◌, refl, sym, ap, ◌∙◌, Bool, true, false, List, [], ◌∷◌, ℕ, ◌+◌, ◌≤◌, ◌<◌, add-one, arith, length, drop, drop_of_length-le, drop-cons, if◌then◌else◌}
-use Rattle.storage.specs.Lists.Map.{keys}
-use Rattle.time_cache.specs.TimeCache.{later_cache}
-use Rattle.protocol.specs.State.{State, Note, with_init, with_received, with_grafted, with_cache}
-use Rattle.protocol.specs.Run.{Room}
-use Rattle.protocol.specs.Ticks.{per_message, queued_for, queued_peers}
+use Rattle.announcements.proofs.Words.{◌≡◌, refl, sym, ap, ◌∙◌, Bool, true, false, List, [], ◌∷◌, ℕ, ◌+◌, ◌≤◌, ◌<◌, add-one, arith, length, drop, drop_of_length-le, drop-cons, if◌then◌else◌, keys, later_cache, State, Note, with_init, with_received, with_grafted, with_cache, Room, per_message, queued_for, queued_peers, numbered, pieces, piece_actions, state_of, peer_at, AtRest}
 use Rattle.decide.specs.Settled.{settled}
-use Rattle.decide.specs.Pieces.{numbered, peer_pieces, pieces, piece_actions}
+use Rattle.decide.specs.Pieces.{peer_pieces}
 use Rattle.decide.specs.ActionsAfter.{dispatch_actions}
 use Rattle.decide.proofs.Dispatch.{queued-ascending}
-use Rattle.block.specs.View.{state_of}
-use Rattle.block.specs.LinkSteps.{peer_at}
 use Rattle.block.specs.declared.head.Head.{Head}
 use Rattle.block.proofs.LinkLaws.{count-peers}
-use Rattle.block.specs.Panels.{AtRest}
 use Rattle.announcements.specs.QueuedRows.{held_then}
 use Rattle.announcements.proofs.OnDispatchLaws.LinkPeers.{pieces-among, nothing-queued, queued-among}
 use Rattle.announcements.proofs.OnDispatchLaws.SendLaws.{chunk-last, numbered-none}

@@ -1,31 +1,18 @@
 -- The links one after the other: the record after the first i, and at the end that of the whole dispatch.
 -- Assumes nothing.
-use Rattle.std.proofs.Common.{◌≡◌, ℕ, zero, suc, ◌+◌, ◌*◌, ◌≤◌, ◌<◌, length, sym, ◌∙◌, ap, refl, arith, Bool, true, false, List, [], ◌∷◌, ◌++◌, get_or, take, drop, map, min, add-one, All, ltb, Option, Some, None, leb, leb-true, leb-false, ltb-false, lt-ltb, le-mul_of_pos_right}
-use Rattle.std.proofs.lemmas.List.{length-map, map-append, drop_all}
-use Rattle.std.proofs.lemmas.List.Elements.{All-weaker}
-use Rattle.std.proofs.Math.Seq.{take-suc, take_all}
+use Rattle.announcements.proofs.Words.{◌≡◌, ℕ, zero, suc, ◌+◌, ◌*◌, ◌≤◌, ◌<◌, length, sym, ◌∙◌, ap, refl, arith, Bool, true, false, List, [], ◌∷◌, ◌++◌, get_or, take, drop, map, min, add-one, All, ltb, Option, Some, None, leb, leb-true, leb-false, ltb-false, lt-ltb, le-mul_of_pos_right, drop_all, All-weaker, take-suc, Entry, keys, cases, Ihave, Mark, State, Note, Room, per_message, queued_for, queued_peers, Batch, add_notes, dispatch_batches, peer_at, AtRest, note_at, first-link, rooms_of}
+use Rattle.std.proofs.lemmas.List.{length-map, map-append}
+use Rattle.std.proofs.Math.Seq.{take_all}
 use Rattle.std.specs.List.{drop-map}
 use lib.Seq.{drop-nil}
-use Rattle.storage.specs.Lists.Map.{Entry, keys}
-use Rattle.storage.proofs.ListsLaws.MapLaws.{cases}
 use Rattle.time_cache.proofs.Orders.{up_of}
-use Rattle.postcard.specs.Message.{Ihave}
-use Rattle.protocol.specs.Links.{Mark}
-use Rattle.protocol.specs.State.{State, Note}
-use Rattle.protocol.specs.Run.{Room}
-use Rattle.protocol.specs.Ticks.{per_message, queued_for, queued_peers}
 use Rattle.decide.specs.Rooms.{first_room}
-use Rattle.decide.specs.RecordGrowth.{Batch, add_notes, add_batches}
-use Rattle.decide.specs.Pieces.{dispatch_batches, back_part}
+use Rattle.decide.specs.RecordGrowth.{add_batches}
+use Rattle.decide.specs.Pieces.{back_part}
 use Rattle.decide.proofs.BackPart.{batches-parts}
 use Rattle.decide.proofs.Dispatch.{queued-ascending}
-use Rattle.block.specs.LinkSteps.{peer_at}
-use Rattle.block.specs.Panels.{AtRest}
-use Rattle.block.specs.NoteSteps.{note_at}
 use Rattle.steps.specs.Rooms.{room_at}
-use Rattle.steps.proofs.RoomsLaws.{first-link}
 use Rattle.announcements.proofs.PerMessageLaws.{per-message}
-use Rattle.steps.specs.Calls.{rooms_of}
 use Rattle.steps.specs.declared.call.Call.{Call}
 use Rattle.announcements.specs.QueuedRows.{ihave_of, ihaves_at}
 use Rattle.announcements.proofs.OnDispatchLaws.LinkPeers.{batch_for, batches-among, nothing-queued, queued-among}

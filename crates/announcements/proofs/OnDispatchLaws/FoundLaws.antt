@@ -1,10 +1,6 @@
 -- What was found in the message cache, one identifier after the other.
 -- Assumes nothing.
-use Rattle.std.proofs.Common.{◌≡◌, ℕ, ◌+◌, ◌<◌, length, get_or, set, replicate, sym, ap, ◌∙◌, arith, true, List, subst, eqb, get_or-set_same, get_or-set_other, eqb-true}
-use borrow.Author.Tests.{eqb-false}
-use Rattle.storage.proofs.ListsLaws.MapLaws.{cases}
-use Rattle.protocol.specs.State.{State}
-use Rattle.block.specs.NoteSteps.{note_at}
+use Rattle.announcements.proofs.Words.{◌≡◌, ℕ, ◌+◌, ◌<◌, length, get_or, set, replicate, sym, ap, ◌∙◌, arith, true, List, subst, eqb, get_or-set_same, get_or-set_other, eqb-true, eqb-false, cases, State, note_at}
 use Rattle.announcements.specs.QueuedRows.{held_then}
 use Rattle.announcements.specs.Marks.{Found}
 use Rattle.announcements.proofs.AnnounceLaws.Turns.{zeros}

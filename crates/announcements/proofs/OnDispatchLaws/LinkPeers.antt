@@ -1,20 +1,13 @@
 -- The peers for whom something is queued are among the links: noting link by link is noting peer by peer.
 -- Assumes nothing.
-use Rattle.std.proofs.Common.{◌≡◌, refl, sym, ap, ◌∙◌, Bool, true, false, ◌||◌, List, [], ◌∷◌, ◌++◌, map, ℕ, ◌<◌, arith, ltb-true, eqb-true, eq-eqb, ne_eqb, ltb, eqb}
-use borrow.Author.Tests.{eqb-false}
-use Rattle.storage.specs.Lists.Base.{filter, all, member, ascending}
-use Rattle.storage.specs.Lists.Map.{keys, insert_key}
-use Rattle.storage.proofs.ListsLaws.MapLaws.{cases, true≢, and_left, and_right, all_head, all_tail}
-use Rattle.storage.proofs.ListsLaws.Lists.{or_left, or_right}
-use Rattle.postcard.specs.Message.{Ihave}
-use Rattle.protocol.specs.Links.{Links, is_neighbour}
-use Rattle.protocol.specs.State.{Note}
+use Rattle.announcements.proofs.Words.{◌≡◌, refl, sym, ap, ◌∙◌, Bool, true, false, ◌||◌, List, [], ◌∷◌, ◌++◌, map, ℕ, ◌<◌, arith, ltb-true, eqb-true, eq-eqb, ne_eqb, ltb, eqb, eqb-false, all, keys, cases, true≢, and_left, and_right, all_head, all_tail, or_left, or_right, Ihave, Links, is_neighbour, Note, Batch, add_notes, Piece, peer_pieces, has-member}
+use Rattle.storage.specs.Lists.Base.{filter, member, ascending}
+use Rattle.storage.specs.Lists.Map.{insert_key}
 use Rattle.protocol.specs.Ticks.{queued_for, queued_peers}
 use Rattle.protocol.specs.Consistent.{by_neighbour}
 use Rattle.protocol.proofs.ConsistentTables.{queued-near}
-use Rattle.decide.specs.RecordGrowth.{Batch, add_notes, add_batches}
-use Rattle.decide.specs.Pieces.{Piece, peer_pieces, pieces}
-use Rattle.steps.proofs.RoomsLaws.{has-member}
+use Rattle.decide.specs.RecordGrowth.{add_batches}
+use Rattle.decide.specs.Pieces.{pieces}
 use Rattle.announcements.proofs.OnDispatchLaws.QueueLaws.{notes-none}
 
 -- members

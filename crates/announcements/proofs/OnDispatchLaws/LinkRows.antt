@@ -1,25 +1,13 @@
 -- The rows of a link, which stand together in a grouped table.
 -- Assumes nothing.
-use Rattle.std.proofs.Common.{◌≡◌, ℕ, zero, suc, ◌<◌, ◌≤◌, length, sym, ◌∙◌, ap, arith, true, false, List, [], ◌∷◌, ◌++◌, get_or, take, add-one, ◌⊎◌, inl, inr, All, eq-eqb, ne_eqb}
+use Rattle.announcements.proofs.Words.{◌≡◌, ℕ, zero, suc, ◌<◌, ◌≤◌, length, sym, ◌∙◌, ap, arith, true, false, List, [], ◌∷◌, ◌++◌, get_or, take, add-one, ◌⊎◌, inl, inr, All, eq-eqb, ne_eqb, All-nil, All-push, All-weaker, All-same, get_or-map, ascending, Entry, keys, Ihave, State, Note, for_peer, queued_for, Mark, peer_at, note, note_at, Column, map-at}
 use Rattle.std.proofs.lemmas.List.{length-map, map-append}
-use Rattle.std.proofs.lemmas.List.Elements.{All-nil, All-push, All-weaker, All-same}
 use Rattle.std.proofs.lemmas.Bool.{cases_order}
 use Rattle.std.proofs.Math.Seq.{take_all}
-use lib.ListN.{get_or-map}
-use Rattle.storage.specs.Lists.Base.{ascending}
-use Rattle.storage.specs.Lists.Map.{Entry, keys}
 use Rattle.time_cache.proofs.Orders.{up_of}
-use Rattle.postcard.specs.Message.{Ihave}
-use Rattle.protocol.specs.State.{State, Note}
-use Rattle.protocol.specs.Push.{for_peer}
-use Rattle.protocol.specs.Ticks.{queued_for}
-use Rattle.protocol.specs.Links.{Mark}
-use Rattle.block.specs.LinkSteps.{peer_at}
-use Rattle.block.specs.NoteSteps.{note, note_at, Column}
 use Rattle.block.proofs.Scans.{keys-apart}
 use Rattle.steps.specs.Groups.{places, part, Grouped}
 use Rattle.steps.proofs.GroupsLaws.PlaceLaws.{hit, miss, places_none}
-use Rattle.block.proofs.NoteRowLaws.{map-at}
 use Rattle.announcements.specs.QueuedRows.{ihave_of, ihaves_at, Mine}
 use Rattle.announcements.proofs.OnDispatchLaws.QueueLaws.{queued-more, queued-same, queued-none}
 

@@ -1,10 +1,6 @@
 -- Marks, one identifier after the other.
 -- Assumes nothing.
-use Rattle.std.proofs.Common.{◌≡◌, refl, sym, ap, ◌∙◌, ◌⊎◌, inl, inr, ⊎_elim, Bool, true, false, ◌||◌, List, [], ◌∷◌, ◌++◌, ℕ, ◌+◌, ◌*◌, ◌%◌, ◌^◌, ◌<◌, arith, eqb-true, eqb, length, get_or, set, length-set, get_or-set_same, get_or-set_other}
-use borrow.Author.Tests.{eqb-false}
-use Rattle.storage.proofs.ListsLaws.MapLaws.{cases, true≢}
-use Rattle.storage.proofs.ListsLaws.Lists.{any_append, any-one, or_cases}
-use Rattle.postcard.specs.Message.{Ihave}
+use Rattle.announcements.proofs.Words.{◌≡◌, refl, sym, ap, ◌∙◌, ◌⊎◌, inl, inr, ⊎_elim, Bool, true, false, ◌||◌, List, [], ◌∷◌, ◌++◌, ℕ, ◌+◌, ◌*◌, ◌%◌, ◌^◌, ◌<◌, arith, eqb-true, eqb, length, get_or, set, length-set, get_or-set_same, get_or-set_other, eqb-false, cases, true≢, any_append, any-one, or_cases, Ihave}
 use Rattle.announcements.specs.QueuedRows.{among}
 use Rattle.announcements.specs.Marks.{low_of, Covers}
 

@@ -1,18 +1,11 @@
 -- What one link hands back is noted, row by row.
 -- Assumes nothing.
-use Rattle.std.proofs.Common.{◌≡◌, ℕ, ◌+◌, ◌-◌, ◌<◌, ◌≤◌, length, sym, ◌∙◌, ap, refl, arith, Bool, true, false, not, ◌&&◌, ◌||◌, List, [], ◌∷◌, ◌++◌, get_or, set, take, drop, append_assoc, All, if◌then◌else◌, ◌⊎◌, inl, inr, length-append, leb, eqb, eqb-true, eq-eqb, ne_eqb}
-use Rattle.std.proofs.lemmas.List.{length-map, map-append, drop_all, take-append-drop}
-use Rattle.std.proofs.lemmas.List.Elements.{All-push, All-weaker, All-head, All-tail}
+use Rattle.announcements.proofs.Words.{◌≡◌, ℕ, ◌+◌, ◌-◌, ◌<◌, ◌≤◌, length, sym, ◌∙◌, ap, refl, arith, Bool, true, false, not, ◌&&◌, ◌||◌, List, [], ◌∷◌, ◌++◌, get_or, set, take, drop, append_assoc, All, if◌then◌else◌, ◌⊎◌, inl, inr, length-append, leb, eqb, eqb-true, eq-eqb, ne_eqb, drop_all, All-push, All-weaker, All-head, All-tail, cases, any_append, any-one, or_cases, count-append, length-filter, Ihave, Note, for_peer, notes, note_at}
+use Rattle.std.proofs.lemmas.List.{length-map, map-append, take-append-drop}
 use Rattle.storage.specs.Lists.Base.{any, count, filter}
-use Rattle.storage.proofs.ListsLaws.MapLaws.{cases}
-use Rattle.storage.proofs.ListsLaws.Lists.{any_append, any-one, or_cases}
-use Rattle.storage.proofs.ListsLaws.ListLaws.{count-append, length-filter}
-use Rattle.postcard.specs.Message.{Ihave}
-use Rattle.protocol.specs.State.{Note}
-use Rattle.protocol.specs.Push.{for_peer, notes, record_full}
+use Rattle.protocol.specs.Push.{record_full}
 use Rattle.protocol.specs.Ticks.{queued_for}
 use Rattle.decide.specs.RecordGrowth.{add_note, add_notes}
-use Rattle.block.specs.NoteSteps.{note_at}
 use Rattle.announcements.specs.Marks.{low_of, Covers}
 use Rattle.announcements.specs.QueuedRows.{ihave_of, ihaves_at, notes_at, among, RowsOf}
 use Rattle.announcements.proofs.OnDispatchLaws.MarkLaws.{covers_more}

@@ -1,18 +1,13 @@
 -- What is queued for a peer, entry by entry, and the record that grows by it.
 -- Assumes nothing.
-use Rattle.std.proofs.Common.{◌≡◌, refl, ap, ◌∙◌, Bool, true, false, List, [], ◌∷◌, ◌++◌, map, append-nil, ℕ, ◌+◌, ◌≤◌, ◌<◌, arith, length, take, drop, get_or, if◌then◌else◌}
+use Rattle.announcements.proofs.Words.{◌≡◌, refl, ap, ◌∙◌, Bool, true, false, List, [], ◌∷◌, ◌++◌, map, append-nil, ℕ, ◌+◌, ◌≤◌, ◌<◌, arith, length, take, drop, get_or, if◌then◌else◌, length-filter, count-length, Ihave, Note, for_peer, add_note, note}
 use mathlib.Core.List.{map-append}
 use lib.ListN.{length-map}
 use lib.Seq.{drop-append-le}
 use Rattle.storage.specs.Lists.Base.{filter}
-use Rattle.storage.proofs.ListsLaws.ListLaws.{length-filter, count-length}
 use Rattle.storage.proofs.ListsLaws.Firsts.{filter_more}
-use Rattle.postcard.specs.Message.{Ihave}
-use Rattle.protocol.specs.State.{Note}
-use Rattle.protocol.specs.Push.{for_peer}
 use Rattle.protocol.specs.Ticks.{queued_for}
-use Rattle.decide.specs.RecordGrowth.{add_note, add_notes}
-use Rattle.block.specs.NoteSteps.{note}
+use Rattle.decide.specs.RecordGrowth.{add_notes}
 
 -- a note without its peer
 abbrev pub ihave_of : Note → Ihave

@@ -1,19 +1,13 @@
 -- Rows of the queue or of the record, one after the other.
 -- Assumes nothing.
-use Rattle.std.proofs.Common.{◌≡◌, ℕ, ◌+◌, ◌-◌, length-drop, ◌<◌, ◌≤◌, length, length-append, sym, ◌∙◌, ap, refl, arith, Bool, true, false, List, [], ◌∷◌, ◌++◌, get_or, take, drop, add-one, append-nil, ltb, min, leb-true, leb-false, leb, drop-cons}
-use Rattle.std.proofs.lemmas.List.{take-append-drop, map-append, drop_all, nil_from_length, take-map}
-use Rattle.std.proofs.lemmas.List.Elements.{All-same, All-take, All-drop}
+use Rattle.announcements.proofs.Words.{◌≡◌, ℕ, ◌+◌, ◌-◌, length-drop, ◌<◌, ◌≤◌, length, length-append, sym, ◌∙◌, ap, refl, arith, Bool, true, false, List, [], ◌∷◌, ◌++◌, get_or, take, drop, add-one, append-nil, ltb, min, leb-true, leb-false, leb, drop-cons, drop_all, nil_from_length, take-map, All-same, All-take, All-drop, take-suc, take-append_seam, drop-append_seam, concat_map, any_append, Ihave, IHave, ihave_bytes, message_bytes, Intake, after_append, Note, note_at}
+use Rattle.std.proofs.lemmas.List.{take-append-drop, map-append}
 use Rattle.std.specs.List.{drop-map}
-use Rattle.std.proofs.Math.Seq.{take-suc, take_all, take-append_seam, drop-append_seam}
-use Rattle.storage.specs.Lists.Base.{any, concat_map}
-use Rattle.storage.proofs.ListsLaws.Lists.{any_append}
-use Rattle.postcard.specs.Message.{Ihave, IHave, ihave_bytes, message_bytes}
+use Rattle.std.proofs.Math.Seq.{take_all}
+use Rattle.storage.specs.Lists.Base.{any}
 use Rattle.postcard.specs.Output.{ihave_head}
 use Rattle.postcard.proofs.Listed.{ihave-listed}
-use Rattle.wire.specs.Encode.Intake.{Intake, after}
-use Rattle.wire.proofs.EncodeLaws.IntakeLaws.{after_append}
-use Rattle.protocol.specs.State.{Note}
-use Rattle.block.specs.NoteSteps.{note_at}
+use Rattle.wire.specs.Encode.Intake.{after}
 use Rattle.announcements.specs.QueuedRows.{ihave_of, ihaves_at, RowsOf}
 
 module _ (ns : List Note) (rows : List ℕ) where

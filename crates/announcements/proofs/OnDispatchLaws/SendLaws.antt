@@ -1,21 +1,16 @@
 -- An IHave with its timer; the IHaves to a link; the links.
 -- Assumes nothing.
-use Rattle.std.proofs.Common.{◌≡◌, refl, sym, ap, ◌∙◌, Bool, true, false, not, ◌||◌, List, [], ◌∷◌, ◌++◌, append-nil, append_assoc, ℕ, zero, suc, ◌+◌, ◌-◌, ◌≤◌, ◌<◌, arith, length, take, drop, length-drop, if◌then◌else◌}
+use Rattle.announcements.proofs.Words.{◌≡◌, refl, sym, ap, ◌∙◌, Bool, true, false, not, ◌||◌, List, [], ◌∷◌, ◌++◌, append-nil, append_assoc, ℕ, zero, suc, ◌+◌, ◌-◌, ◌≤◌, ◌<◌, arith, length, take, drop, length-drop, if◌then◌else◌, concat-append, true≢, Ihave, IHave, AnnounceDropped, Action, Sent, Scheduled, message_bytes, taken_byte, State, Note, Room, queued_for, per_message, Piece, cached_in, Intake, after_append, after_nil}
 use Rattle.storage.specs.Lists.Base.{concat_map}
-use Rattle.storage.proofs.ListsLaws.ListLaws.{concat-append}
-use Rattle.storage.proofs.ListsLaws.MapLaws.{true≢}
 use Rattle.postcard.specs.Number.{number_bytes}
-use Rattle.postcard.specs.Message.{Ihave, IHave, AnnounceDropped, Action, Sent, Scheduled, action_bytes, message_bytes, taken_byte}
+use Rattle.postcard.specs.Message.{action_bytes}
 use Rattle.postcard.specs.Output.{send_head}
-use Rattle.protocol.specs.State.{State, Note}
-use Rattle.protocol.specs.Run.{Room}
-use Rattle.protocol.specs.Ticks.{chunks, queued_for, queued_peers, per_message}
+use Rattle.protocol.specs.Ticks.{chunks, queued_peers}
 use Rattle.decide.specs.Rooms.{kth_taken}
-use Rattle.decide.specs.Pieces.{Piece, numbered, peer_pieces, pieces, piece_taken, piece_actions}
-use Rattle.decide.specs.RecordGrowth.{announce_action, cached_in}
+use Rattle.decide.specs.Pieces.{numbered, peer_pieces, pieces, piece_taken, piece_actions}
+use Rattle.decide.specs.RecordGrowth.{announce_action}
 use Rattle.decide.specs.ActionsAfter.{dispatch_actions}
-use Rattle.wire.specs.Encode.Intake.{Intake, after}
-use Rattle.wire.proofs.EncodeLaws.IntakeLaws.{after_append, after_nil}
+use Rattle.wire.specs.Encode.Intake.{after}
 use Rattle.announcements.specs.QueuedRows.{quiet, timer_after, one_send, flag_after, flag_after_all}
 
 bytes-cons : {A : Type 0} (f : A → List ℕ) (x : A) (xs : List A) → concat_map f (x ∷ xs) ≡ f x ++ concat_map f xs

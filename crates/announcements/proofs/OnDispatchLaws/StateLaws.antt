@@ -1,28 +1,15 @@
 -- The state after a dispatch, and the numbers of its entries.
 -- Assumes nothing.
-use Rattle.std.proofs.Common.{◌≡◌, ℕ, ◌≤◌, length, sym, ◌∙◌, ap, refl, Bool, true, false, List, [], ◌++◌, take, leb, leb-true}
+use Rattle.announcements.proofs.Words.{◌≡◌, ℕ, ◌≤◌, length, sym, ◌∙◌, ap, refl, Bool, true, false, List, [], ◌++◌, take, leb, leb-true, and_left, and_right, keys, Links, State, Note, with_dropped, with_queue, with_dispatch_scheduled, with_announce_scheduled, per_message, queued_peers, cached_in, add_batches, dispatch_batches, settled, Sizes, sized_queued, sized_recorded, is_empty, rooms_of, sizes_value, settled-as, same_links, same_dropped, same-rooms-in}
 use Rattle.std.proofs.Math.Seq.{take_all}
-use Rattle.storage.proofs.ListsLaws.MapLaws.{and_left, and_right}
-use Rattle.storage.specs.Lists.Map.{keys}
-use Rattle.protocol.specs.Links.{Links}
-use Rattle.protocol.specs.State.{State, Note, with_dropped, with_queue, with_dispatch_scheduled, with_announce_scheduled}
-use Rattle.protocol.specs.Ticks.{per_message, queued_peers}
 use Rattle.protocol.specs.Whole.{fits, content_held}
 use Rattle.protocol.specs.Consistent.{Flagged}
-use Rattle.decide.specs.RecordGrowth.{cached_in, add_batches}
-use Rattle.decide.specs.Pieces.{dispatch_batches}
-use Rattle.decide.specs.Settled.{settled}
-use Rattle.decide.specs.Sizes.{Sizes, sizes_of, sized_queued, sized_recorded}
+use Rattle.decide.specs.Sizes.{sizes_of}
 use Rattle.decide.specs.StateAfter.{recorded_state, dispatch_state}
 use Rattle.decide.proofs.StateLaws.{flag-stands}
-use Rattle.storage.specs.Lists.Base.{is_empty}
-use Rattle.steps.specs.Calls.{rooms_of}
 use Rattle.block.specs.NoteSteps.{standing}
-use Rattle.steps.specs.Shared.{sizes_value}
 use Rattle.steps.specs.declared.Sizes.{Sizes as CodeSizes}
 use Rattle.steps.specs.declared.call.Call.{Call}
-use Rattle.steps.proofs.AtRestLaws.{settled-as, same_links, same_dropped}
-use Rattle.steps.proofs.RoomsLaws.{same-rooms-in}
 use Rattle.steps.proofs.SettledLaws.ThenLaws.{settled-still}
 use Rattle.announcements.specs.OnDispatchTimer.{after_dispatch}
 use Rattle.announcements.specs.QueuedRows.{held_then, notes_at, noted_again, back_noted}

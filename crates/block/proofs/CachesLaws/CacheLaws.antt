@@ -1,21 +1,11 @@
 -- A time cache of the block, for any two tables: as the view reads it, in order, and after an insert or `expire_until`.
 -- Assumes nothing.
-use Rattle.std.proofs.Common.{◌≡◌, sym, ap, ◌∙◌, subst, List, map, ℕ, ◌+◌, ◌*◌, ◌≤◌, ◌<◌, arith, length, get_or, set}
+use Rattle.block.proofs.Words.{◌≡◌, sym, ap, ◌∙◌, subst, List, map, ℕ, ◌+◌, ◌*◌, ◌≤◌, ◌<◌, arith, length, get_or, set, ascending, keys, part, rows, length-rows, part-put, length_part, Ref, ref_of, places, Below, Cache, expire_until, in_pop_order, holds, later_cache, expiry_row_of, expiry_of, ValueBytes, value_bytes, entry_of, cache_in, refs_at, rows_at, cache_at, named, OnlyTwo, TimeBoundCache, keys-named, values-read, keys-as, holds_as, put_as, expire-as, later-as, length-as, Limits}
 use lib.ListN.{length-map}
-use Rattle.storage.specs.Lists.Base.{ascending}
-use Rattle.storage.specs.Lists.Map.{keys}
-use Rattle.storage.specs.Rows.Part.{part}
-use Rattle.storage.specs.Rows.Rows.{rows}
-use Rattle.storage.proofs.RowsLaws.Rows.{length-rows}
-use Rattle.storage.proofs.RowsLaws.Parts.{part-put, length_part}
-use Rattle.storage.specs.Refs.Refs.{Ref, ref_of, refs, places, Below}
-use Rattle.time_cache.specs.TimeCache.{Cache, put as put_in, expire_until, in_pop_order, holds, later_cache}
-use Rattle.time_cache.specs.Tables.{expiry_row_of, expiry_rows, expiry_of, ValueBytes, value_bytes, entry_of, cache_of, cache_in, refs_at, rows_at, cache_at, named, values_as, Sound, OnlyTwo}
-use Rattle.time_cache.specs.declared.cache.TimeBoundCache.{TimeBoundCache}
-use Rattle.time_cache.proofs.TableLaws.{keys-named}
-use Rattle.time_cache.proofs.ValueLaws.{values-read, keys-as, holds_as, put_as, expire-as, later-as, length-as}
+use Rattle.storage.specs.Refs.Refs.{refs}
+use Rattle.time_cache.specs.TimeCache.{put as put_in}
+use Rattle.time_cache.specs.Tables.{expiry_rows, cache_of, values_as, Sound}
 use Rattle.time_cache.proofs.LoanLaws.{halfway, length-halfway, only-second, two-wider}
-use Rattle.protocol.specs.State.{Limits}
 use Rattle.block.specs.Layout.{sizes, place, tables, table, end}
 use Rattle.block.proofs.Cut.{cut-part, within}
 use Rattle.block.proofs.Tables.{rows-table, frame-whole}

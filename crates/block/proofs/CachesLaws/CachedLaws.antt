@@ -1,11 +1,7 @@
 -- The message cache: its tables as the view reads them.
 -- Assumes nothing.
-use Rattle.std.proofs.Common.{◌≡◌, sym, ap, ◌∙◌, subst, List, ℕ, ◌≤◌, arith, lit<, length}
-use Rattle.time_cache.specs.TimeCache.{Cache, expired_keys}
-use Rattle.time_cache.specs.Tables.{cache_at, Lies, FitsOneMore, Sound as SoundCache, values_as}
-use Rattle.time_cache.specs.declared.cache.TimeBoundCache.{TimeBoundCache}
-use Rattle.time_cache.proofs.ValueLaws.{expired-as}
-use Rattle.protocol.specs.State.{Limits, Cached}
+use Rattle.block.proofs.Words.{◌≡◌, sym, ap, ◌∙◌, subst, List, ℕ, ◌≤◌, arith, lit<, length, Cache, expired_keys, cache_at, Lies, FitsOneMore, TimeBoundCache, expired-as, Limits, Cached}
+use Rattle.time_cache.specs.Tables.{Sound as SoundCache, values_as}
 use Rattle.block.specs.Layout.{table}
 use Rattle.block.specs.View.{state_of, limits_of, cached_in, cached_of}
 use Rattle.block.specs.Fit.{Fit}

@@ -1,17 +1,10 @@
 -- One cached message: its content, and its round, as the view reads them.
 -- Assumes nothing.
-use Rattle.std.proofs.Common.{◌≡◌, sym, ap, ◌∙◌, List, [], ℕ, ◌+◌, ◌*◌, ◌≤◌, ◌<◌, arith, lit<, length, get_or}
+use Rattle.block.proofs.Words.{◌≡◌, sym, ap, ◌∙◌, List, [], ℕ, ◌+◌, ◌*◌, ◌≤◌, ◌<◌, arith, lit<, length, get_or, Entry, entry, le_nat, Ref, ref, refs, places, get_or-map-in, length-refs, ref-at, Timed, ExpiryRow, expiry_rows, row_at, entry_of, ref_at, length-expiry_rows, Limits, Cached}
 use lib.ListN.{length-map}
-use Rattle.storage.specs.Lists.Map.{Entry, entry}
 use Rattle.storage.specs.Rows.Part.{part}
-use Rattle.storage.specs.Rows.Digits.{le_nat}
-use Rattle.storage.specs.Refs.Refs.{Ref, ref, ref_of, refs, places}
-use Rattle.storage.proofs.RefsLaws.Places.{get_or-map-in, length-refs, ref-at}
-use Rattle.time_cache.specs.TimeCache.{Timed}
-use Rattle.time_cache.specs.Tables.{ExpiryRow, expiry_rows, row_at, entry_of, cache_of}
-use Rattle.time_cache.specs.Steps.{ref_at}
-use Rattle.time_cache.proofs.ExpiryLaws.{length-expiry_rows}
-use Rattle.protocol.specs.State.{Limits, Cached}
+use Rattle.storage.specs.Refs.Refs.{ref_of}
+use Rattle.time_cache.specs.Tables.{cache_of}
 use Rattle.block.specs.Layout.{place, table}
 use Rattle.block.specs.View.{state_of, limits_of, half_at, content_of, cached_of, cached_in}
 use Rattle.block.specs.Sound.{Sound}

@@ -1,16 +1,9 @@
 -- One grafted message: its bytes as the view reads them, and what a write of its `first` or `kept` does to the state.
 -- Assumes nothing.
-use Rattle.std.proofs.Common.{None, ◌≡◌, sym, ap, ◌∙◌, subst, List, [], ℕ, ◌+◌, ◌*◌, ◌≤◌, ◌<◌, arith, lit<, length, take, drop, get_or, length-drop, take_all, get_or-drop, get_or-take, length-take-le}
-use Rattle.storage.specs.Lists.Map.{Map, Entry, entry}
+use Rattle.block.proofs.Words.{None, ◌≡◌, sym, ap, ◌∙◌, subst, List, [], ℕ, ◌+◌, ◌*◌, ◌≤◌, ◌<◌, arith, lit<, length, take, drop, get_or, take_all, Map, Entry, entry, le_nat, length_part, part-part, get_d_part, Ref, ref, refs, get_or-map-in, length-refs, Timed, ExpiryRow, expiry_rows, entry_of, ref_at, Limits, Grafts}
+use Rattle.std.proofs.Common.{length-drop, get_or-drop, get_or-take, length-take-le}
 use Rattle.storage.specs.Rows.Part.{part}
-use Rattle.storage.specs.Rows.Digits.{le_nat}
-use Rattle.storage.proofs.RowsLaws.Parts.{length_part, part-part, get_d_part}
-use Rattle.storage.specs.Refs.Refs.{Ref, ref, refs}
-use Rattle.storage.proofs.RefsLaws.Places.{get_or-map-in, length-refs}
-use Rattle.time_cache.specs.TimeCache.{Timed}
-use Rattle.time_cache.specs.Tables.{ExpiryRow, expiry_rows, entry_of, cache_of}
-use Rattle.time_cache.specs.Steps.{ref_at}
-use Rattle.protocol.specs.State.{Limits, Grafts}
+use Rattle.time_cache.specs.Tables.{cache_of}
 use Rattle.block.specs.Layout.{place, table}
 use Rattle.block.specs.View.{state_of, limits_of, byte_at, hops_in, round_of, grafts_of, grafted_in}
 use Rattle.block.specs.Sound.{Numbered, Sound}

@@ -1,23 +1,14 @@
 -- A write of the `first` or the `kept` of a grafted message: the value that its bytes then hold, and what the write does to the state.
 -- Assumes nothing.
-use Rattle.std.proofs.Common.{Option, Some, None, ◌≡◌, refl, sym, ap, ◌∙◌, subst, List, [], ◌∷◌, map, ℕ, zero, suc, ◌+◌, ◌*◌, ◌^◌, ◌≤◌, ◌<◌, arith, lit<, ltb, eqb, length, take, drop, get_or, set, length-append, length-drop, take_all, drop_at}
-use lib.Seq.{take-append-le}
-use Rattle.storage.specs.Lists.Map.{Map, Entry, entry, lookup, insert}
-use Rattle.storage.proofs.ListsLaws.MapLaws.{cases}
+use Rattle.block.proofs.Words.{Option, Some, None, ◌≡◌, refl, sym, ap, ◌∙◌, subst, List, [], ◌∷◌, map, ℕ, zero, suc, ◌+◌, ◌*◌, ◌^◌, ◌≤◌, ◌<◌, arith, lit<, ltb, eqb, length, take, drop, get_or, set, length-append, take_all, drop_at, take-append-le, Map, Entry, entry, cases, le_nat, le_bytes, length-le_bytes, le_nat-le_bytes, length_part, length-put, part-put, part-part, get_d_part, part-before, part-after, get_or-put-before, get_or-put-after, drop-put, put-put-next, put-drop, set-put, Ref, ref, refs, ref-at, length-refs, Timed, Cache, ExpiryRow, row_at, value_bytes, refs_at, rows_at, cache_at, read_as, Lies, OnlyTwo, ref_at, TimeBoundCache, own-stored, own-written, own-sound, Limits, State, Grafts, with_grafted}
+use Rattle.std.proofs.Common.{length-drop}
+use Rattle.storage.specs.Lists.Map.{lookup, insert}
 use Rattle.storage.specs.Rows.Part.{part, put}
-use Rattle.storage.specs.Rows.Digits.{le_nat, le_bytes}
 use Rattle.storage.specs.Rows.Rows.{field_of}
-use Rattle.storage.proofs.RowsLaws.Digits.{length-le_bytes, le_nat-le_bytes}
-use Rattle.storage.proofs.RowsLaws.Parts.{length_part, length-put, part-put, part-part, get_d_part, part-before, part-after, get_or-put-before, get_or-put-after, drop-put, put-put-next, put-drop, set-put}
-use Rattle.storage.specs.Refs.Refs.{Ref, ref, ref_of, refs}
-use Rattle.storage.proofs.RefsLaws.Places.{ref-at, length-refs}
-use Rattle.time_cache.specs.TimeCache.{Timed, Cache, with_value, replace}
-use Rattle.time_cache.specs.Tables.{ExpiryRow, row_at, value_bytes, refs_at, rows_at, cache_at, read_as, values_as, Lies, OnlyTwo, Sound as SoundCache}
-use Rattle.time_cache.specs.Steps.{ref_at}
-use Rattle.time_cache.specs.declared.cache.TimeBoundCache.{TimeBoundCache}
+use Rattle.storage.specs.Refs.Refs.{ref_of}
+use Rattle.time_cache.specs.TimeCache.{with_value, replace}
+use Rattle.time_cache.specs.Tables.{values_as, Sound as SoundCache}
 use Rattle.time_cache.proofs.LoanLaws.{only_same, only-put, only-both}
-use Rattle.time_cache.proofs.WriteLaws.{own-stored, own-written, own-sound}
-use Rattle.protocol.specs.State.{Limits, State, Grafts, with_grafted}
 use Rattle.block.specs.Layout.{place, table}
 use Rattle.block.specs.View.{state_of, limits_of, half_at, flag_of, only_if, hops_in, round_of, grafts_of, grafted_in}
 use Rattle.block.specs.Sound.{Numbered, Sound}

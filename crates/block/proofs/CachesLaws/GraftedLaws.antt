@@ -1,16 +1,10 @@
 -- The grafted messages: their tables, and what `expire_until` does to the state.
 -- Assumes nothing.
-use Rattle.std.proofs.Common.{◌≡◌, sym, ap, ◌∙◌, subst, List, [], ◌∷◌, map, Bool, true, false, ℕ, zero, suc, ◌+◌, ◌-◌, ◌*◌, ◌≤◌, ◌<◌, arith, lit<, length, drop, set, drop-drop, if◌then◌else◌}
+use Rattle.block.proofs.Words.{◌≡◌, sym, ap, ◌∙◌, subst, List, [], ◌∷◌, map, Bool, true, false, ℕ, zero, suc, ◌+◌, ◌-◌, ◌*◌, ◌≤◌, ◌<◌, arith, lit<, length, drop, set, drop-drop, if◌then◌else◌, part, Ref, ref, refs, places, Below, names, ref-at, length-refs, Cache, expire_until, cache_at, refs_at, Lies, FitsOneMore, OnlyTwo, values_as, ref_at, Expires, TimeBoundCache, Limits, Grafts, with_grafted}
 use Rattle.storage.specs.Lists.Base.{filter}
-use Rattle.storage.specs.Rows.Part.{part}
-use Rattle.storage.specs.Refs.Refs.{Ref, ref, ref_of, refs, places, Below, names, lowered, left}
-use Rattle.storage.proofs.RefsLaws.Places.{ref-at, length-refs}
-use Rattle.time_cache.specs.TimeCache.{Cache, expire_until}
-use Rattle.time_cache.specs.Tables.{cache_at, refs_at, Lies, FitsOneMore, Sound as SoundCache, OnlyTwo, values_as}
-use Rattle.time_cache.specs.Steps.{ref_at, Expires}
-use Rattle.time_cache.specs.declared.cache.TimeBoundCache.{TimeBoundCache}
+use Rattle.storage.specs.Refs.Refs.{ref_of, lowered, left}
+use Rattle.time_cache.specs.Tables.{Sound as SoundCache}
 use Rattle.time_cache.specs.declared.cache.Expired.{Expired}
-use Rattle.protocol.specs.State.{Limits, Grafts, with_grafted}
 use Rattle.block.specs.Layout.{place, tables, table}
 use Rattle.block.specs.View.{state_of, view_of, limits_of, grafted_in, grafts_of, peers_in}
 use Rattle.block.specs.Fit.{Fit}

@@ -1,14 +1,10 @@
 -- The received messages: their tables, and what an insert and `expire_until` do to the state.
 -- Assumes nothing.
-use Rattle.std.proofs.Common.{◌≡◌, sym, ap, ◌∙◌, subst, List, ℕ, ◌+◌, ◌*◌, ◌≤◌, arith, lit<, length, set}
-use Rattle.storage.specs.Refs.Refs.{Ref, places, Below}
-use Rattle.time_cache.specs.TimeCache.{Cache, put as put_in, expire_until}
-use Rattle.time_cache.specs.Tables.{cache_at, Lies, FitsOneMore, Sound as SoundCache, OnlyTwo, values_as}
-use Rattle.time_cache.specs.Steps.{held_at, Inserts, Expires}
-use Rattle.time_cache.specs.declared.cache.TimeBoundCache.{TimeBoundCache}
+use Rattle.block.proofs.Words.{◌≡◌, sym, ap, ◌∙◌, subst, List, ℕ, ◌+◌, ◌*◌, ◌≤◌, arith, lit<, length, set, Ref, places, Below, Cache, expire_until, cache_at, Lies, FitsOneMore, OnlyTwo, values_as, held_at, Inserts, Expires, TimeBoundCache, Limits, with_received}
+use Rattle.time_cache.specs.TimeCache.{put as put_in}
+use Rattle.time_cache.specs.Tables.{Sound as SoundCache}
 use Rattle.time_cache.specs.declared.cache.Inserted.{Inserted}
 use Rattle.time_cache.specs.declared.cache.Expired.{Expired}
-use Rattle.protocol.specs.State.{Limits, with_received}
 use Rattle.block.specs.Layout.{place, tables, table}
 use Rattle.block.specs.View.{state_of, view_of, limits_of, received_in, nothing_of}
 use Rattle.block.specs.Fit.{Fit}

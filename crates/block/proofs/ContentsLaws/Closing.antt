@@ -1,19 +1,10 @@
 -- `expire_until` of the message cache: what the two tables leave to do, and the contents moved to the front of their table.
 -- Assumes nothing.
-use Rattle.std.proofs.Common.{◌≡◌, refl, sym, ap, ◌∙◌, subst, true, List, [], map, ℕ, ◌+◌, ◌-◌, ◌*◌, ◌≤◌, ◌<◌, arith, lit<, length, drop, get_or, set, length-drop}
-use Rattle.storage.specs.Lists.Base.{ascending}
-use Rattle.storage.specs.Rows.Part.{part, put}
-use Rattle.storage.specs.Rows.Rows.{rows}
-use Rattle.storage.proofs.RowsLaws.Parts.{length_part}
-use Rattle.storage.specs.Refs.Refs.{Ref, refs, places, Below, left}
-use Rattle.time_cache.specs.TimeCache.{Cache, expire_until}
-use Rattle.time_cache.specs.Tables.{ExpiryRow, expiry_rows, row_at, named, cache_of, cache_at, refs_at, rows_at}
-use Rattle.time_cache.specs.Steps.{Expires}
-use Rattle.time_cache.specs.declared.cache.TimeBoundCache.{TimeBoundCache}
+use Rattle.block.proofs.Words.{◌≡◌, refl, sym, ap, ◌∙◌, subst, true, List, [], map, ℕ, ◌+◌, ◌-◌, ◌*◌, ◌≤◌, ◌<◌, arith, lit<, length, drop, get_or, set, ascending, part, put, rows, length_part, Ref, refs, places, Below, Cache, expire_until, ExpiryRow, row_at, named, cache_of, cache_at, refs_at, rows_at, Expires, TimeBoundCache, length-expiry_rows, keys-named, Limits, Cached, with_cache}
+use Rattle.std.proofs.Common.{length-drop}
+use Rattle.storage.specs.Refs.Refs.{left}
+use Rattle.time_cache.specs.Tables.{expiry_rows}
 use Rattle.time_cache.specs.declared.cache.Expired.{Expired}
-use Rattle.time_cache.proofs.ExpiryLaws.{length-expiry_rows}
-use Rattle.time_cache.proofs.TableLaws.{keys-named}
-use Rattle.protocol.specs.State.{Limits, Cached, with_cache}
 use Rattle.block.specs.Layout.{place, tables, table, end}
 use Rattle.block.specs.View.{state_of, view_of, limits_of, cached_in, cached_of}
 use Rattle.block.specs.Fit.{Fit}

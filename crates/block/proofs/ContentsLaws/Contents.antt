@@ -1,18 +1,11 @@
 -- The message cache as rows, places and contents: contents that move with the starts of their rows, and the bytes that the entries hold.
 -- Assumes nothing.
-use Rattle.std.proofs.Common.{◌≡◌, refl, sym, ap, ◌∙◌, true, List, [], ◌∷◌, map, ℕ, ◌+◌, ◌≤◌, ◌<◌, arith, ltb-true, ltb, length, drop, get_or}
+use Rattle.block.proofs.Words.{◌≡◌, refl, sym, ap, ◌∙◌, true, List, [], ◌∷◌, map, ℕ, ◌+◌, ◌≤◌, ◌<◌, arith, ltb-true, ltb, length, drop, get_or, ascending, entry, all_head, all_tail, part, put, part-part, part-put-in, length_part, Ref, ref, places, Below, get_or-map-in, ExpiryRow, row_at, entry_of, of-below, below, values_same}
 use mathlib.Core.List.{map-map}
 use lib.ListN.{length-map}
-use Rattle.storage.specs.Lists.Base.{sum, ascending}
-use Rattle.storage.specs.Lists.Map.{entry}
-use Rattle.storage.proofs.ListsLaws.MapLaws.{all_head, all_tail}
-use Rattle.storage.specs.Rows.Part.{part, put}
-use Rattle.storage.proofs.RowsLaws.Parts.{part-part, part-put-in, length_part}
-use Rattle.storage.specs.Refs.Refs.{Ref, ref, places, Below, left}
-use Rattle.storage.proofs.RefsLaws.Places.{get_or-map-in}
-use Rattle.time_cache.specs.Tables.{ExpiryRow, row_at, named, entry_of, cache_of}
-use Rattle.time_cache.proofs.Orders.{of-below, below}
-use Rattle.time_cache.proofs.ValueLaws.{values_same}
+use Rattle.storage.specs.Lists.Base.{sum}
+use Rattle.storage.specs.Refs.Refs.{left}
+use Rattle.time_cache.specs.Tables.{named, cache_of}
 use Rattle.block.specs.View.{half_at, content_of, cached_of}
 use Rattle.block.specs.Sound.{held}
 use Rattle.block.specs.Contents.Starts.{start_of, len_of, first_start, RowsAdjoin}

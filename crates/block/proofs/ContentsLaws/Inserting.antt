@@ -1,24 +1,11 @@
 -- A message put into the two tables without its content.
 -- Assumes nothing.
-use Rattle.std.proofs.Common.{◌≡◌, refl, sym, ap, ◌∙◌, subst, List, [], ◌∷◌, ◌++◌, ℕ, ◌+◌, ◌-◌, ◌*◌, ◌≤◌, ◌<◌, arith, lit<, length, take, drop, get_or, set, length-drop, length-take-le}
-use lib.Seq.{get_or_at, drop-append-add}
-use Rattle.storage.specs.Rows.Part.{part, put}
-use Rattle.storage.specs.Rows.Digits.{le_nat, le_bytes}
-use Rattle.storage.proofs.RowsLaws.Parts.{length_part, length-put, part-put, part-zero}
-use Rattle.storage.proofs.RowsLaws.Digits.{length-le_bytes, le_nat-le_bytes}
-use Rattle.storage.proofs.RowsLaws.Rows.{put-gap, row-end}
-use Rattle.storage.specs.Refs.Refs.{Ref, ref, ref_of, refs, places, Below}
-use Rattle.storage.proofs.RefsLaws.Places.{ref-at, length-refs}
-use Rattle.time_cache.specs.TimeCache.{Cache, put as put_in}
-use Rattle.time_cache.specs.Tables.{ExpiryRow, expiry_row, expiry_rows, row_at, no_row, cache_in, cache_at, refs_at, rows_at}
-use Rattle.time_cache.specs.Steps.{ref_at, held_at, Inserts}
-use Rattle.time_cache.specs.declared.cache.TimeBoundCache.{TimeBoundCache}
+use Rattle.block.proofs.Words.{◌≡◌, refl, sym, ap, ◌∙◌, subst, List, [], ◌∷◌, ◌++◌, ℕ, ◌+◌, ◌-◌, ◌*◌, ◌≤◌, ◌<◌, arith, lit<, length, take, drop, get_or, set, get_or_at, drop-append-add, part, put, le_nat, le_bytes, length_part, length-put, part-put, part-zero, length-le_bytes, le_nat-le_bytes, put-gap, row-end, Ref, ref, refs, places, Below, ref-at, length-refs, Cache, ExpiryRow, expiry_row, expiry_rows, row_at, no_row, cache_in, cache_at, refs_at, rows_at, ref_at, held_at, Inserts, TimeBoundCache, length-expiry_rows, put_as, length-as, own-stored, rest-stored, put-get_or-same, Limits, Cached, with_cache}
+use Rattle.std.proofs.Common.{length-drop, length-take-le}
+use Rattle.storage.specs.Refs.Refs.{ref_of}
+use Rattle.time_cache.specs.TimeCache.{put as put_in}
 use Rattle.time_cache.specs.declared.cache.Inserted.{Inserted}
-use Rattle.time_cache.proofs.ExpiryLaws.{length-expiry_rows}
-use Rattle.time_cache.proofs.ValueLaws.{put_as, length-as}
 use Rattle.time_cache.proofs.ViewLaws.{Fresh, fresh_start, fresh-own, fresh-rest}
-use Rattle.time_cache.proofs.WriteLaws.{own-stored, rest-stored, put-get_or-same}
-use Rattle.protocol.specs.State.{Limits, Cached, with_cache}
 use Rattle.block.specs.Layout.{place, tables, table, end}
 use Rattle.block.specs.View.{state_of, limits_of, cached_in, cached_of, content_of, half_at}
 use Rattle.block.specs.Fit.{Fit}

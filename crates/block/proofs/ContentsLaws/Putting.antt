@@ -1,13 +1,10 @@
 -- "cache at" a round in three steps: an old content goes, the entry is put in without its content, and the content comes.
 -- Assumes nothing.
-use Rattle.std.proofs.Common.{Option, Some, None, ◌≡◌, refl, sym, ap, ◌∙◌, subst, true, List, [], ◌∷◌, ℕ, ◌+◌, ◌≤◌, arith, eq-eqb, le-ltb, ltb, eqb, length}
-use Rattle.storage.specs.Lists.Base.{sum, ascending}
-use Rattle.storage.specs.Lists.Map.{Map, Entry, entry, keys, lookup, insert}
-use Rattle.storage.proofs.ListsLaws.MapLaws.{cases, lookup-insert-same, ascending-insert}
-use Rattle.time_cache.specs.TimeCache.{Timed, Cache, value_of, get, put as put_in, with_value, replace}
+use Rattle.block.proofs.Words.{Option, Some, None, ◌≡◌, refl, sym, ap, ◌∙◌, subst, true, List, [], ◌∷◌, ℕ, ◌+◌, ◌≤◌, arith, eq-eqb, le-ltb, ltb, eqb, length, ascending, Map, Entry, entry, keys, cases, lookup-insert-same, ascending-insert, Timed, Cache, replace-put, State, Cached, with_cache}
+use Rattle.storage.specs.Lists.Base.{sum}
+use Rattle.storage.specs.Lists.Map.{lookup, insert}
+use Rattle.time_cache.specs.TimeCache.{value_of, get, put as put_in, with_value, replace}
 use Rattle.time_cache.proofs.Timely.{order-added}
-use Rattle.time_cache.proofs.ValueLaws.{replace-put}
-use Rattle.protocol.specs.State.{State, Cached, with_cache}
 use Rattle.block.specs.View.{state_of}
 use Rattle.block.specs.Sound.{Sound, held}
 use Rattle.block.specs.declared.head.Head.{Head}

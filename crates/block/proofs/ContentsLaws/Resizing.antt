@@ -1,22 +1,12 @@
 -- Another content for the message that row p has: the rows, the contents and the state.
 -- Assumes nothing.
-use Rattle.std.proofs.Common.{Option, Some, ◌≡◌, refl, sym, ap, ◌∙◌, subst, ◌⊎◌, inl, inr, List, [], ◌∷◌, ◌++◌, map, ℕ, zero, suc, ◌+◌, ◌-◌, ◌≤◌, ◌<◌, arith, length, take, drop, get_or, length-drop, get_or-take, get_or-drop, get_or-append-add, length-take-le}
-use mathlib.Core.List.{map-append}
-use Rattle.storage.proofs.RowsLaws.Ids.{tri}
-use lib.ListN.{length-map, get_or-append, get_or-map}
-use lib.Seq.{get_or_at}
+use Rattle.block.proofs.Words.{Option, Some, ◌≡◌, refl, sym, ap, ◌∙◌, subst, ◌⊎◌, inl, inr, List, [], ◌∷◌, ◌++◌, map, ℕ, zero, suc, ◌+◌, ◌-◌, ◌≤◌, ◌<◌, arith, length, take, drop, get_or, get_or-append-add, map-append, tri, get_or-append, get_or-map, get_or_at, Map, Entry, entry, keys, lookup, insert, part, Ascending, Here, part-before, part-after, part-put, length_part, length-put, Ref, ref, places, Below, get_or-map-in, Timed, Expiry, Cache, ExpiryRow, expiry_of, row_at, no_row, no_expiry, entry_of, insert-here, lookup-here, keys-named, Cached}
+use Rattle.std.proofs.Common.{length-drop, get_or-take, get_or-drop, length-take-le}
+use lib.ListN.{length-map}
 use Rattle.storage.specs.Lists.Base.{sum}
-use Rattle.storage.specs.Lists.Map.{Map, Entry, entry, keys, lookup, insert}
-use Rattle.storage.specs.Rows.Part.{part, put}
-use Rattle.storage.specs.Rows.Sorted.{Ascending, Here}
-use Rattle.storage.proofs.RowsLaws.Parts.{part-before, part-after, part-put, length_part, length-put}
-use Rattle.storage.specs.Refs.Refs.{Ref, ref, places, Below}
-use Rattle.storage.proofs.RefsLaws.Places.{get_or-map-in}
-use Rattle.time_cache.specs.TimeCache.{Timed, Expiry, Cache, value_of, get, with_value, replace}
-use Rattle.time_cache.specs.Tables.{ExpiryRow, expiry_of, row_at, no_row, no_expiry, named, entry_of, cache_of}
-use Rattle.time_cache.proofs.MapPlaces.{insert-here, lookup-here}
-use Rattle.time_cache.proofs.TableLaws.{keys-named}
-use Rattle.protocol.specs.State.{Cached}
+use Rattle.storage.specs.Rows.Part.{put}
+use Rattle.time_cache.specs.TimeCache.{value_of, get, with_value, replace}
+use Rattle.time_cache.specs.Tables.{named, cache_of}
 use Rattle.block.specs.View.{half_at, content_of, cached_of}
 use Rattle.block.specs.Contents.CacheSteps.{refill_with, refill}
 use Rattle.block.specs.Contents.Starts.{start_of, len_of, RowsAdjoin, with_len, shifted_row}

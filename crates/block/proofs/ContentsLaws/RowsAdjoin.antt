@@ -1,16 +1,10 @@
 -- Rows whose contents stand one after the other.
 -- Assumes nothing.
-use Rattle.std.proofs.Common.{◌≡◌, refl, sym, ap, ◌∙◌, subst, Bool, true, eqb, eqb-true, eq-eqb, List, [], ◌∷◌, ◌++◌, map, ℕ, zero, suc, ◌+◌, ◌-◌, ◌*◌, ◌≤◌, ◌<◌, arith, length, take, drop, length-drop, drop-drop, get_or-drop}
+use Rattle.block.proofs.Words.{◌≡◌, refl, sym, ap, ◌∙◌, subst, Bool, true, eqb, eqb-true, eq-eqb, List, [], ◌∷◌, ◌++◌, map, ℕ, zero, suc, ◌+◌, ◌-◌, ◌*◌, ◌≤◌, ◌<◌, arith, length, take, drop, drop-drop, and_left, and_right, and_intro, le_nat, le_bytes, rows, part-put, part-before, part-after, length_part, length-le_bytes, le_nat-le_bytes, row-end, ExpiryRow, expiry_of, row_at, no_row, row-at, length-expiry_rows}
+use Rattle.std.proofs.Common.{length-drop, get_or-drop}
 use Rattle.storage.specs.Lists.Base.{sum}
-use Rattle.storage.proofs.ListsLaws.MapLaws.{and_left, and_right, and_intro}
 use Rattle.storage.specs.Rows.Part.{part}
-use Rattle.storage.specs.Rows.Digits.{le_nat, le_bytes}
-use Rattle.storage.specs.Rows.Rows.{rows}
-use Rattle.storage.proofs.RowsLaws.Parts.{part-put, part-before, part-after, length_part}
-use Rattle.storage.proofs.RowsLaws.Digits.{length-le_bytes, le_nat-le_bytes}
-use Rattle.storage.proofs.RowsLaws.Rows.{row-end}
-use Rattle.time_cache.specs.Tables.{ExpiryRow, expiry_row_of, expiry_rows, expiry_of, row_at, no_row}
-use Rattle.time_cache.proofs.ExpiryLaws.{row-at, length-expiry_rows}
+use Rattle.time_cache.specs.Tables.{expiry_row_of, expiry_rows}
 use Rattle.block.specs.Layout.{table}
 use Rattle.block.specs.View.{four_at, limits_of}
 use Rattle.block.specs.Sound.{adjoin, Sound}

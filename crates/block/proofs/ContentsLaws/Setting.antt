@@ -1,25 +1,10 @@
 -- Another content in row p, out of the stores that make it, and what it is to the state.
 -- Assumes nothing.
-use Rattle.std.proofs.Common.{Option, Some, ◌≡◌, refl, sym, ap, ◌∙◌, subst, true, List, [], ◌∷◌, ◌++◌, map, ℕ, zero, suc, ◌+◌, ◌-◌, ◌*◌, ◌≤◌, ◌<◌, arith, add-one, lit<, length, take, drop, get_or, set}
+use Rattle.block.proofs.Words.{Option, Some, ◌≡◌, refl, sym, ap, ◌∙◌, subst, true, List, [], ◌∷◌, ◌++◌, map, ℕ, zero, suc, ◌+◌, ◌-◌, ◌*◌, ◌≤◌, ◌<◌, arith, add-one, lit<, length, take, drop, get_or, set, sum, ascending, Map, Entry, entry, keys, lookup, part, le_bytes, Ascending, Here, Between, length_part, length-le_bytes, Ref, ref, refs, places, Below, get_or-map-in, Timed, Cache, ExpiryRow, expiry_rows, row_at, entry_of, ref_at, up_of, length-expiry_rows, insert-here, lookup-here, lookup-between, keys-named, rest-stored, Limits, Cached, with_cache}
 use lib.ListN.{length-map}
-use Rattle.storage.specs.Lists.Base.{sum, ascending}
-use Rattle.storage.specs.Lists.Map.{Map, Entry, entry, keys, lookup}
-use Rattle.storage.specs.Rows.Part.{part, put}
-use Rattle.storage.specs.Rows.Digits.{le_bytes}
-use Rattle.storage.specs.Rows.Sorted.{Ascending, Here, Between}
-use Rattle.storage.proofs.RowsLaws.Parts.{length_part}
-use Rattle.storage.proofs.RowsLaws.Digits.{length-le_bytes}
-use Rattle.storage.specs.Refs.Refs.{Ref, ref, refs, places, Below}
-use Rattle.storage.proofs.RefsLaws.Places.{get_or-map-in}
-use Rattle.time_cache.specs.TimeCache.{Timed, Cache, value_of, get, with_value, replace}
-use Rattle.time_cache.specs.Tables.{ExpiryRow, expiry_rows, row_at, named, entry_of, cache_of}
-use Rattle.time_cache.specs.Steps.{ref_at}
-use Rattle.time_cache.proofs.Orders.{up_of}
-use Rattle.time_cache.proofs.ExpiryLaws.{length-expiry_rows}
-use Rattle.time_cache.proofs.MapPlaces.{insert-here, lookup-here, lookup-between}
-use Rattle.time_cache.proofs.TableLaws.{keys-named}
-use Rattle.time_cache.proofs.WriteLaws.{rest-stored}
-use Rattle.protocol.specs.State.{Limits, Cached, with_cache}
+use Rattle.storage.specs.Rows.Part.{put}
+use Rattle.time_cache.specs.TimeCache.{value_of, get, with_value, replace}
+use Rattle.time_cache.specs.Tables.{named, cache_of}
 use Rattle.block.specs.Layout.{place, tables, table}
 use Rattle.block.specs.View.{state_of, limits_of, cached_in, cached_of, content_of}
 use Rattle.block.specs.Fit.{Fit}

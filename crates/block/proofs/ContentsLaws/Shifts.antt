@@ -1,18 +1,10 @@
 -- The starts in the rows, as bytes of their table: read, stored, and moved in a part of the block.
 -- Assumes nothing.
-use Rattle.std.proofs.Common.{◌≡◌, refl, sym, ap, ◌∙◌, List, [], ◌∷◌, ◌++◌, map, append-nil, ℕ, zero, suc, ◌+◌, ◌*◌, ◌≤◌, ◌<◌, arith, lit<, length, take, drop, get_or, set, length-drop, drop_of_length-le, take_all}
+use Rattle.block.proofs.Words.{◌≡◌, refl, sym, ap, ◌∙◌, List, [], ◌∷◌, ◌++◌, map, append-nil, ℕ, zero, suc, ◌+◌, ◌*◌, ◌≤◌, ◌<◌, arith, lit<, length, take, drop, get_or, set, drop_of_length-le, take_all, le_nat, le_bytes, rows, part-part, loan-put, length-le_bytes, rows-put, rows-part, length-rows, map-put, map-drop, ExpiryRow, expiry_row_of, row_at, row-at, length-expiry_rows, rest-stored, Limits}
+use Rattle.std.proofs.Common.{length-drop}
 use lib.ListN.{length-map}
 use Rattle.storage.specs.Rows.Part.{part, put}
-use Rattle.storage.specs.Rows.Digits.{le_nat, le_bytes}
-use Rattle.storage.specs.Rows.Rows.{rows}
-use Rattle.storage.proofs.RowsLaws.Parts.{part-part, loan-put}
-use Rattle.storage.proofs.RowsLaws.Digits.{length-le_bytes}
-use Rattle.storage.proofs.RowsLaws.Rows.{rows-put, rows-part, length-rows}
-use Rattle.storage.proofs.RowsLaws.Views.{map-put, map-drop}
-use Rattle.time_cache.specs.Tables.{ExpiryRow, expiry_row_of, expiry_rows, row_at}
-use Rattle.time_cache.proofs.ExpiryLaws.{row-at, length-expiry_rows}
-use Rattle.time_cache.proofs.WriteLaws.{rest-stored}
-use Rattle.protocol.specs.State.{Limits}
+use Rattle.time_cache.specs.Tables.{expiry_rows}
 use Rattle.block.specs.Layout.{place, tables, table, end}
 use Rattle.block.specs.View.{four_at, limits_of}
 use Rattle.block.specs.Fit.{Fit}

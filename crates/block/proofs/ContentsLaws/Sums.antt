@@ -1,12 +1,9 @@
 -- Sums over places that name each row at most once: where such a sum is that of all rows, the rows that no place names have nothing.
 -- Assumes nothing.
-use Rattle.std.proofs.Common.{◌≡◌, refl, ap, ◌∙◌, true, List, [], ◌∷◌, map, ℕ, zero, suc, ◌+◌, ◌≤◌, ◌<◌, le_of_suc-le-suc, not-suc-le-zero, arith, ltb-true, eqb-true, leb-true, leb, ltb, eqb, length, drop, if◌then◌else◌}
+use Rattle.block.proofs.Words.{◌≡◌, refl, ap, ◌∙◌, true, List, [], ◌∷◌, map, ℕ, zero, suc, ◌+◌, ◌≤◌, ◌<◌, le_of_suc-le-suc, not-suc-le-zero, arith, ltb-true, eqb-true, leb-true, leb, ltb, eqb, length, drop, if◌then◌else◌, all, cases, and_left, and_right, all_head, all_tail, Ref, places, named-dropped, ExpiryRow, row_at, no_row}
 use lib.Dec.{leb-zero, leb-suc-zero, leb-suc-suc, eqb-zero-suc, eqb-suc-zero, eqb-suc-suc}
-use Rattle.storage.specs.Lists.Base.{all, sum, ascending, filter}
-use Rattle.storage.proofs.ListsLaws.MapLaws.{cases, and_left, and_right, all_head, all_tail}
-use Rattle.storage.specs.Refs.Refs.{Ref, places, left}
-use Rattle.storage.proofs.RefsLaws.Shifts.{named-dropped}
-use Rattle.time_cache.specs.Tables.{ExpiryRow, row_at, no_row}
+use Rattle.storage.specs.Lists.Base.{sum, ascending, filter}
+use Rattle.storage.specs.Refs.Refs.{left}
 use Rattle.block.specs.Contents.Starts.{len_of}
 
 -- w of the numbers below m, added

@@ -1,29 +1,18 @@
 -- A new entry among the grafted messages: what the insert and the zeros after it leave, and the first peer of it.
 -- Assumes nothing.
-use Rattle.std.proofs.Common.{◌≡◌, refl, sym, ap, ◌∙◌, subst, ◌⊎◌, inl, inr, List, [], ◌∷◌, ◌++◌, map, ℕ, zero, suc, ◌+◌, ◌*◌, ◌^◌, ◌≤◌, ◌<◌, arith, lit<, length, take, drop, get_or, length-take-le, Result, Ok, Err}
+use Rattle.block.proofs.Words.{◌≡◌, refl, sym, ap, ◌∙◌, subst, ◌⊎◌, inl, inr, List, [], ◌∷◌, ◌++◌, map, ℕ, zero, suc, ◌+◌, ◌*◌, ◌^◌, ◌≤◌, ◌<◌, arith, lit<, length, take, drop, get_or, Result, Ok, Err, get_or_at, Entry, entry, keys, ascending-insert, part, length-le_bytes, le_nat-le_bytes, tri, length-put, get_d_part, get_or-put-before, get_or-put-after, Ref, ref, refs, moved, get_or-map-in, Timed, Cache, replace, ExpiryRow, expiry_row, no_row, row_at, expiry_rows, value_bytes, entry_for, refs_at, rows_at, cache_at, Lies, OnlyTwo, ref_at, held_at, Inserts, TimeBoundCache, replace-put, put-get_or-same, own-refs, own-rows, own-written, own-sound, Limits, State, Grafts, with_grafted}
+use Rattle.std.proofs.Common.{length-take-le}
 use lib.ListN.{length-map}
-use lib.Seq.{get_or_at}
-use Rattle.storage.specs.Lists.Map.{Entry, entry, keys}
-use Rattle.storage.proofs.ListsLaws.MapLaws.{ascending-insert}
-use Rattle.storage.specs.Rows.Part.{part, put}
+use Rattle.storage.specs.Rows.Part.{put}
 use Rattle.storage.specs.Rows.Digits.{le_bytes}
-use Rattle.storage.proofs.RowsLaws.Digits.{length-le_bytes, le_nat-le_bytes}
-use Rattle.storage.proofs.RowsLaws.Ids.{tri}
-use Rattle.storage.proofs.RowsLaws.Parts.{length-put, get_d_part, get_or-put-before, get_or-put-after}
-use Rattle.storage.specs.Refs.Refs.{Ref, ref, refs, moved}
-use Rattle.storage.proofs.RefsLaws.Places.{get_or-map-in}
-use Rattle.time_cache.specs.TimeCache.{Timed, Cache, put as put_in, replace}
-use Rattle.time_cache.specs.Tables.{ExpiryRow, expiry_row, no_row, row_at, expiry_rows, named, value_bytes, entry_for, refs_at, rows_at, cache_at, Lies, OnlyTwo, Sound as SoundCache}
-use Rattle.time_cache.specs.Steps.{ref_at, held_at, placed, Inserts}
-use Rattle.time_cache.specs.declared.cache.TimeBoundCache.{TimeBoundCache}
+use Rattle.time_cache.specs.TimeCache.{put as put_in}
+use Rattle.time_cache.specs.Tables.{named, Sound as SoundCache}
+use Rattle.time_cache.specs.Steps.{placed}
 use Rattle.time_cache.specs.declared.cache.Inserted.{Inserted}
 use Rattle.time_cache.proofs.Timely.{order-added}
 use Rattle.time_cache.proofs.ReadLaws.{length-es, length-rs}
 use Rattle.time_cache.proofs.BlockLaws.{sound-up}
-use Rattle.time_cache.proofs.ValueLaws.{replace-put}
-use Rattle.time_cache.proofs.WriteLaws.{put-get_or-same, own-refs, own-rows, own-written, own-sound}
 use Rattle.time_cache.proofs.LoanLaws.{halfway, length-halfway, only-second, only-first, only-put, only_then, only-both, two-wider}
-use Rattle.protocol.specs.State.{Limits, State, Grafts, with_grafted}
 use Rattle.block.specs.Layout.{place, table}
 use Rattle.block.specs.View.{state_of, limits_of, byte_at, hops_in, round_of, grafts_of, grafted_in}
 use Rattle.storage.specs.Refs.Numbers.{pairs, numbered}

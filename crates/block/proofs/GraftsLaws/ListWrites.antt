@@ -1,16 +1,9 @@
 -- Lists of link numbers and rounds: one more in its order, and another round of one of them.
 -- Assumes nothing.
-use Rattle.std.proofs.Common.{◌≡◌, refl, sym, ap, ◌∙◌, subst, List, [], ◌∷◌, ◌++◌, append_assoc, ℕ, zero, suc, ◌+◌, ◌-◌, ◌*◌, ◌≤◌, ◌<◌, arith, lt-ltb, ltb, length, take, drop, get_or, set, length-append, length-drop, take_all, take-take, length-take-le, drop-drop, get_or-drop, get_or-take}
-use lib.Seq.{take-append-le}
+use Rattle.block.proofs.Words.{◌≡◌, refl, sym, ap, ◌∙◌, subst, List, [], ◌∷◌, ◌++◌, append_assoc, ℕ, zero, suc, ◌+◌, ◌-◌, ◌*◌, ◌≤◌, ◌<◌, arith, lt-ltb, ltb, length, take, drop, get_or, set, length-append, take_all, take-take, drop-drop, take-append-le, le_bytes, rows, length-le_bytes, length_part, length-put, part-part, part-after, drop-put, take_put, drop-take, get_d_part, get_or-put-before, set-put, put-cons, put-put-prev, put-drop, length-rows, rows-put-one, rows-opened, length-opened, put-gap, Below, below_of, of-below, all-gap}
+use Rattle.std.proofs.Common.{length-drop, length-take-le, get_or-drop, get_or-take}
 use Rattle.storage.specs.Rows.Part.{part, put}
-use Rattle.storage.specs.Rows.Digits.{le_bytes}
-use Rattle.storage.specs.Rows.Rows.{rows, opened}
-use Rattle.storage.proofs.RowsLaws.Digits.{length-le_bytes}
-use Rattle.storage.proofs.RowsLaws.Parts.{length_part, length-put, part-part, part-after, drop-put, take_put, drop-take, get_d_part, get_or-put-before, set-put, put-cons, put-put-prev, put-drop}
-use Rattle.storage.proofs.RowsLaws.Rows.{length-rows, rows-put-one, rows-opened, length-opened, put-gap}
-use Rattle.storage.specs.Refs.Refs.{Below}
-use Rattle.time_cache.proofs.Orders.{below_of, of-below}
-use Rattle.time_cache.proofs.TableLaws.{all-gap}
+use Rattle.storage.specs.Rows.Rows.{opened}
 use Rattle.block.specs.View.{byte_at, hops_in}
 use Rattle.storage.specs.Refs.Numbers.{pairs, numbered}
 use Rattle.block.specs.Sound.{Numbered}

@@ -1,16 +1,8 @@
 -- The writes of a graft, as steps of the state: a peer more, a lower round, and the known round where it is no higher.
 -- Assumes nothing.
-use Rattle.std.proofs.Common.{Option, Some, None, ◌≡◌, refl, sym, ap, ◌∙◌, subst, List, [], ◌∷◌, ◌++◌, ℕ, ◌+◌, ◌*◌, ◌^◌, ◌≤◌, ◌<◌, min, arith, length, take, drop, get_or}
-use lib.ListN.{length-map, get_or-map}
-use Rattle.storage.specs.Lists.Map.{Map, Entry, entry, keys, lookup, insert}
-use Rattle.storage.specs.Rows.Part.{part, put}
-use Rattle.storage.specs.Rows.Digits.{le_bytes}
-use Rattle.storage.specs.Rows.Sorted.{Ascending, Here, Between}
-use Rattle.storage.proofs.RowsLaws.Digits.{le_nat-le_bytes}
-use Rattle.time_cache.specs.TimeCache.{Timed, Cache, value_of, get, put as put_in, with_value, replace}
-use Rattle.time_cache.proofs.Orders.{up_of}
-use Rattle.time_cache.proofs.MapPlaces.{insert-between, insert-here, lookup-here, lookup-between}
-use Rattle.protocol.specs.State.{State, Grafts, with_grafted}
+use Rattle.block.proofs.Words.{Option, Some, None, ◌≡◌, refl, sym, ap, ◌∙◌, subst, List, [], ◌∷◌, ◌++◌, ℕ, ◌+◌, ◌*◌, ◌^◌, ◌≤◌, ◌<◌, min, arith, length, take, drop, get_or, get_or-map, Map, Entry, entry, keys, lookup, insert, part, put, le_bytes, Ascending, Here, Between, le_nat-le_bytes, Timed, Cache, up_of, insert-between, insert-here, lookup-here, lookup-between, State, Grafts, with_grafted}
+use lib.ListN.{length-map}
+use Rattle.time_cache.specs.TimeCache.{value_of, get, put as put_in, with_value, replace}
 use Rattle.protocol.specs.Control.{lower, with_graft}
 use Rattle.block.specs.Layout.{place}
 use Rattle.block.specs.View.{state_of, limits_of, byte_at, peer_of, round_of, hops_in}

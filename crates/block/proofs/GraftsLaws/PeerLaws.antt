@@ -1,17 +1,9 @@
 -- The grafted peers of a message: in order, neighbours, and no more than the links.
 -- Assumes nothing.
-use Rattle.std.proofs.Common.{None, ◌≡◌, refl, sym, ap, ◌∙◌, Bool, true, false, not, ◌&&◌, List, [], ◌∷◌, ℕ, ◌≤◌, ◌<◌, arith, ltb-true, ne_eqb, leb, ltb, length, get_or}
-use lib.ListN.{length-map, get_or-map}
-use Rattle.storage.specs.Lists.Base.{all, any, member, once, ascending}
-use Rattle.storage.specs.Lists.Map.{Map, Entry, entry, keys, insert, has}
-use Rattle.storage.proofs.ListsLaws.MapLaws.{and_left, and_right, and_intro, all_head, all_tail}
-use Rattle.storage.proofs.ListsLaws.ListLaws.{all_map}
+use Rattle.block.proofs.Words.{None, ◌≡◌, refl, sym, ap, ◌∙◌, Bool, true, false, not, ◌&&◌, List, [], ◌∷◌, ℕ, ◌≤◌, ◌<◌, arith, ltb-true, ne_eqb, leb, ltb, length, get_or, get_or-map, all, Map, Entry, entry, keys, insert, has, and_left, and_right, and_intro, all_head, all_tail, all_map, Ascending, Between, Timed, up_of, Mark, is_neighbour, State, Grafts}
+use lib.ListN.{length-map}
+use Rattle.storage.specs.Lists.Base.{any, member, once, ascending}
 use Rattle.storage.proofs.ListsLaws.Places.{all-at}
-use Rattle.storage.specs.Rows.Sorted.{Ascending, Between}
-use Rattle.time_cache.specs.TimeCache.{Timed}
-use Rattle.time_cache.proofs.Orders.{up_of}
-use Rattle.protocol.specs.Links.{Mark, is_neighbour}
-use Rattle.protocol.specs.State.{State, Grafts}
 use Rattle.protocol.specs.Gossips.{graft_out}
 use Rattle.protocol.specs.Whole.{grafts_whole}
 use Rattle.protocol.proofs.ConsistentTables.{Grafted, to-grafted, grafted-insert}

@@ -1,15 +1,10 @@
 -- What the bytes of a grafted message say: its `first` and its `kept`.
 -- Assumes nothing.
-use Rattle.std.proofs.Common.{◌≡◌, ap, ◌∙◌, Bool, true, false, List, [], ℕ, ◌+◌, ◌*◌, ◌≤◌, ◌<◌, arith, eq-eqb, ne_eqb, lit<, length, take, drop, get_or, drop-drop, get_or-drop, if◌then◌else◌, Some, None}
-use Rattle.storage.specs.Lists.Map.{Entry}
+use Rattle.block.proofs.Words.{◌≡◌, ap, ◌∙◌, Bool, true, false, List, [], ℕ, ◌+◌, ◌*◌, ◌≤◌, ◌<◌, arith, eq-eqb, ne_eqb, lit<, length, take, drop, get_or, drop-drop, if◌then◌else◌, Some, None, Entry, le_nat, Ref, ref, refs, ref-at, Timed, ref_at, Limits, Grafts}
+use Rattle.std.proofs.Common.{get_or-drop}
 use Rattle.storage.specs.Rows.Part.{part}
-use Rattle.storage.specs.Rows.Digits.{le_nat}
 use Rattle.storage.specs.Rows.Rows.{field_of}
-use Rattle.storage.specs.Refs.Refs.{Ref, ref, ref_of, refs}
-use Rattle.storage.proofs.RefsLaws.Places.{ref-at}
-use Rattle.time_cache.specs.TimeCache.{Timed}
-use Rattle.time_cache.specs.Steps.{ref_at}
-use Rattle.protocol.specs.State.{Limits, Grafts}
+use Rattle.storage.specs.Refs.Refs.{ref_of}
 use Rattle.block.specs.Layout.{place, table}
 use Rattle.block.specs.View.{state_of, limits_of, byte_at, half_at, flag_of, only_if, grafts_of}
 use Rattle.block.specs.Sound.{Sound}

@@ -1,14 +1,7 @@
 -- The row of a link that comes in, once the link numbers are raised.
 -- Assumes nothing.
-use Rattle.std.proofs.Common.{◌≡◌, sym, ap, ◌∙◌, subst, List, ℕ, ◌+◌, ◌<◌, arith, lit<, length, set}
-use Rattle.std.specs.declared.ops.Range.{Range}
-use Rattle.storage.specs.Lists.Map.{Entry, entry, keys, insert}
-use Rattle.storage.specs.Rows.Sorted.{Between}
-use Rattle.storage.specs.Tables.Listed.{listed, inserted}
-use Rattle.storage.proofs.RowsLaws.Views.{map-gap}
-use Rattle.time_cache.proofs.MapPlaces.{insert-between}
-use Rattle.protocol.specs.Links.{Mark, Links}
-use Rattle.protocol.specs.State.{State, Limits, with_links}
+use Rattle.block.proofs.Words.{◌≡◌, sym, ap, ◌∙◌, subst, List, ℕ, ◌+◌, ◌<◌, arith, lit<, length, set, Range, Entry, entry, keys, insert, Between, inserted, map-gap, insert-between, Mark, Links, State, Limits, with_links}
+use Rattle.storage.specs.Tables.Listed.{listed}
 use Rattle.block.specs.Layout.{span, tables}
 use Rattle.block.specs.View.{limits_of, view_with, view_of, state_of, link_of, links_in}
 use Rattle.block.specs.Sound.{Laid}

@@ -1,14 +1,8 @@
 -- The row of a link that goes, once the link numbers are lowered.
 -- Assumes nothing.
-use Rattle.std.proofs.Common.{◌≡◌, refl, sym, ap, ◌∙◌, subst, List, ◌++◌, ℕ, suc, ◌-◌, ◌<◌, add-one, arith, lit<, length, take, drop, set}
-use mathlib.Core.List.{map-append}
-use Rattle.std.specs.declared.ops.Range.{Range}
-use Rattle.storage.specs.Lists.Map.{Entry, keys, remove}
-use Rattle.storage.specs.Tables.Listed.{listed, removed}
-use Rattle.storage.proofs.RowsLaws.Views.{map-take, map-drop}
-use Rattle.time_cache.proofs.Orders.{up_of}
-use Rattle.protocol.specs.Links.{Mark, Links, link_down}
-use Rattle.protocol.specs.State.{State, Limits, with_links}
+use Rattle.block.proofs.Words.{◌≡◌, refl, sym, ap, ◌∙◌, subst, List, ◌++◌, ℕ, suc, ◌-◌, ◌<◌, add-one, arith, lit<, length, take, drop, set, map-append, Range, Entry, keys, remove, removed, map-take, map-drop, up_of, Mark, Links, State, Limits, with_links}
+use Rattle.storage.specs.Tables.Listed.{listed}
+use Rattle.protocol.specs.Links.{link_down}
 use Rattle.protocol.specs.Neighbours.{forget_peer}
 use Rattle.block.specs.Layout.{span, tables}
 use Rattle.block.specs.View.{limits_of, view_with, view_of, state_of, link_of, links_in}

@@ -1,19 +1,11 @@
 -- The four changes that lower the link numbers of a block, one after the other: queue, record, grafted rows, missing rows.
 -- Assumes nothing.
-use Rattle.std.proofs.Common.{◌≡◌, refl, sym, ap, ◌∙◌, subst, List, [], ◌++◌, map, ℕ, ◌+◌, ◌-◌, ◌*◌, ◌≤◌, ◌<◌, arith, lit<, length, take, drop, get_or, set, take_at, drop_at, take-take, take-append-drop, length-append, length-take-le, length-drop}
-use Rattle.std.specs.declared.ops.Range.{Range}
+use Rattle.block.proofs.Words.{◌≡◌, refl, sym, ap, ◌∙◌, subst, List, [], ◌++◌, map, ℕ, ◌+◌, ◌-◌, ◌*◌, ◌≤◌, ◌<◌, arith, lit<, length, take, drop, get_or, set, take_at, drop_at, take-take, take-append-drop, length-append, Range, filter, keys, put, Ascending, length-put, part-add, put-put-next, put_all, loan-put, get_d_part, ref, places, Below, up_of, Limits, numbered, lower_all, entries}
+use Rattle.std.proofs.Common.{length-take-le, length-drop}
 use borrow.Rule.Slice.PartMut.{put_mid}
-use Rattle.storage.specs.Lists.Base.{filter}
-use Rattle.storage.specs.Lists.Map.{keys}
-use Rattle.storage.specs.Rows.Part.{part, put}
-use Rattle.storage.specs.Rows.Sorted.{Ascending}
-use Rattle.storage.proofs.RowsLaws.Parts.{length-put, part-add, put-put-next, put_all, loan-put, get_d_part}
-use Rattle.storage.specs.Refs.Refs.{ref, places, Below}
-use Rattle.time_cache.proofs.Orders.{up_of}
-use Rattle.protocol.specs.State.{Limits}
+use Rattle.storage.specs.Rows.Part.{part}
 use Rattle.block.specs.Layout.{sizes, place, span, tables, table, end}
 use Rattle.block.specs.View.{limits_of, view_with, state_of}
-use Rattle.storage.specs.Refs.Numbers.{numbered, lower_all, entries}
 use Rattle.block.specs.Fit.{Fit}
 use Rattle.block.specs.Sound.{Laid, Sound, AllNumbered}
 use Rattle.block.specs.LinkSteps.{LinksAscend}
@@ -28,19 +20,6 @@ use Rattle.block.specs.Neighbours.Lowered.{without_peer, Listed, listed, lower_l
 use Rattle.block.proofs.NeighboursLaws.RaisedRows.{few-in}
 use Rattle.block.proofs.NeighboursLaws.LoweredRefs.{below-lowered, places-numbered}
 use Rattle.block.proofs.NeighboursLaws.LoweredTables.{notes-left, missing-left, grafted-left, places-lowered, fine_of, of-fine, fine-lowered, fine-filter, Fine}
-
--- the parts of the block that are lent: queue and record with their rows, grafted entries, missing messages
-pub record Spans (l : Limits) : Type 0 where
-  pub queue : Range ℕ
-  pub queue-start : queue.start ≡ place l 11
-  pub queue-end : queue.end ≡ place l 13
-  pub record-notes : Range ℕ
-  pub record-start : record-notes.start ≡ place l 13
-  pub record-end : record-notes.end ≡ end l
-  pub grafted : Range ℕ
-  pub grafted-is : grafted ≡ span l 7
-  pub missing : Range ℕ
-  pub missing-is : missing ≡ span l 9
 
 -- two tables that are lent as one part, the one after the other: numbers in the one, rows beside them in the other
 module _ (l : Limits) (t u : ℕ) (ht : t < 15) (hu : u < 15) (nx : place l u ≡ place l t + get_or (sizes l) t 0) (r : Range ℕ) (hs : r.start ≡ place l t) (he : r.end ≡ place l u + get_or (sizes l) u 0) where
@@ -209,37 +188,38 @@ module _ (h : Head) (xs : List ℕ) (sound : Sound h xs) (asc : LinksAscend h xs
       });
     }
 
-  -- one change after the other
-  module _ (sp : Spans l1) (z1 : List ℕ) (q o1 : ℕ) (g1 : length z1 ≡ length (lent_at sp.queue xs)) (k1 : o1 ≡ get_or (sizes l1) 11 0)
-      (w1 : (q ≤ h.live.queued) × (entries o1 34 q z1 ≡ lower_all i (entries o1 34 h.live.queued (lent_at sp.queue xs)))) where
+  -- one change after the other: the queue, the record, each with its rows
+  module _ (queue : Range ℕ) (queue-start : queue.start ≡ place l1 11) (queue-end : queue.end ≡ place l1 13) (z1 : List ℕ) (q o1 : ℕ) (g1 : length z1 ≡ length (lent_at queue xs)) (k1 : o1 ≡ get_or (sizes l1) 11 0)
+      (w1 : (q ≤ h.live.queued) × (entries o1 34 q z1 ≡ lower_all i (entries o1 34 h.live.queued (lent_at queue xs)))) where
     abbrev y1 : List ℕ
-    y1 = given_back sp.queue xs z1
+    y1 = given_back queue xs z1
 
     abbrev s11 : ℕ
     s11 = get_or (sizes l1) 11 0
 
-    end11 : sp.queue.end ≡ place l1 12 + get_or (sizes l1) 12 0
-    end11 = omega (arith, sp.queue-end)
+    end11 : queue.end ≡ place l1 12 + get_or (sizes l1) 12 0
+    end11 = omega (arith, queue-end)
 
     f1 : tables l1 y1 ≡ set (set (tables l1 xs) 11 (take s11 z1)) 12 (drop s11 z1)
-    f1 = two-frame l1 11 12 (lit< tt) (lit< tt) (omega arith) sp.queue sp.queue-start end11 xs z1 fit.long g1
+    f1 = two-frame l1 11 12 (lit< tt) (lit< tt) (omega arith) queue queue-start end11 xs z1 fit.long g1
 
-    pub long1 : length y1 ≡ length xs
-    long1 = two-long l1 11 12 (lit< tt) (lit< tt) (omega arith) sp.queue sp.queue-start end11 xs z1 fit.long g1
+    long1 : length y1 ≡ length xs
+    long1 = two-long l1 11 12 (lit< tt) (lit< tt) (omega arith) queue queue-start end11 xs z1 fit.long g1
 
     n1 : numbered ref 34 q (take s11 z1) (drop s11 z1) ≡ lower_all i (numbered ref 34 h.live.queued (T 11) (T 12))
-    n1 = two-left l1 11 12 (lit< tt) (lit< tt) (omega arith) sp.queue sp.queue-start end11 xs z1 fit.long g1 i h.live.queued q o1 k1 (omega (arith, fit.within)) w1.0 w1.1
+    n1 = two-left l1 11 12 (lit< tt) (lit< tt) (omega arith) queue queue-start end11 xs z1 fit.long g1 i h.live.queued q o1 k1 (omega (arith, fit.within)) w1.0 w1.1
 
-    module _ (z2 : List ℕ) (d o2 : ℕ) (g2 : length z2 ≡ length (lent_at sp.record-notes y1)) (k2 : o2 ≡ get_or (sizes l1) 13 0)
-        (w2 : (d ≤ h.live.dropped) × (entries o2 34 d z2 ≡ lower_all i (entries o2 34 h.live.dropped (lent_at sp.record-notes y1)))) where
+    module _ (notes : Range ℕ) (notes-start : notes.start ≡ place l1 13) (notes-end : notes.end ≡ end l1) (z2 : List ℕ) (d o2 : ℕ) (g2 : length z2 ≡ length (lent_at notes y1)) (k2 : o2 ≡ get_or (sizes l1) 13 0)
+        (w2 : (d ≤ h.live.dropped) × (entries o2 34 d z2 ≡ lower_all i (entries o2 34 h.live.dropped (lent_at notes y1))))
+        (grafted : Range ℕ) (grafted-is : grafted ≡ span l1 7) where
       abbrev y2 : List ℕ
-      y2 = given_back sp.record-notes y1 z2
+      y2 = given_back notes y1 z2
 
       abbrev s13 : ℕ
       s13 = get_or (sizes l1) 13 0
 
-      end13 : sp.record-notes.end ≡ place l1 14 + get_or (sizes l1) 14 0
-      end13 = omega (arith, sp.record-end)
+      end13 : notes.end ≡ place l1 14 + get_or (sizes l1) 14 0
+      end13 = omega (arith, notes-end)
 
       room1 : end l1 ≤ length y1
       room1 = omega (arith, long1, fit.long)
@@ -249,62 +229,63 @@ module _ (h : Head) (xs : List ℕ) (sound : Sound h xs) (asc : LinksAscend h xs
 
       f2 : tables l1 y2 ≡ t2
       f2 =
-          two-frame l1 13 14 (lit< tt) (lit< tt) (omega arith) sp.record-notes sp.record-start end13 y1 z2 room1 g2
+          two-frame l1 13 14 (lit< tt) (lit< tt) (omega arith) notes notes-start end13 y1 z2 room1 g2
           ∙ ap (λ (ts : List (List ℕ)). set (set ts 13 (take s13 z2)) 14 (drop s13 z2)) f1
 
       long2 : length y2 ≡ length xs
-      long2 = two-long l1 13 14 (lit< tt) (lit< tt) (omega arith) sp.record-notes sp.record-start end13 y1 z2 room1 g2 ∙ long1
+      long2 = two-long l1 13 14 (lit< tt) (lit< tt) (omega arith) notes notes-start end13 y1 z2 room1 g2 ∙ long1
 
       n2 : numbered ref 34 d (take s13 z2) (drop s13 z2) ≡ lower_all i (numbered ref 34 h.live.dropped (T 13) (T 14))
       n2 =
-          two-left l1 13 14 (lit< tt) (lit< tt) (omega arith) sp.record-notes sp.record-start end13 y1 z2 room1 g2 i h.live.dropped d o2 k2 (omega (arith, fit.within)) w2.0 w2.1
+          two-left l1 13 14 (lit< tt) (lit< tt) (omega arith) notes notes-start end13 y1 z2 room1 g2 i h.live.dropped d o2 k2 (omega (arith, fit.within)) w2.0 w2.1
           ∙ ap (λ (ts : List (List ℕ)). lower_all i (numbered ref 34 h.live.dropped (get_or ts 13 []) (get_or ts 14 []))) f1
 
       room2 : end l1 ≤ length y2
       room2 = omega (arith, long2, fit.long)
 
-      pub third-asks : (h.live.grafted * 119 ≤ length (lent_at sp.grafted y2)) × AllFew 22 119 h.live.grafted (lent_at sp.grafted y2)
+      pub third-asks : (h.live.grafted * 119 ≤ length (lent_at grafted y2)) × AllFew 22 119 h.live.grafted (lent_at grafted y2)
       third-asks = (
-        omega (arith, lent-room l1 7 sp.grafted y2 (lit< tt) sp.grafted-is room2, fit.within),
-        few-are l1 7 h.live.links 22 119 h.live.grafted sp.grafted xs y2 (lit< tt) sp.grafted-is (omega arith) (ap (λ (ts : List (List ℕ)). get_or ts 7 []) f2) old.grafts,
+        omega (arith, lent-room l1 7 grafted y2 (lit< tt) grafted-is room2, fit.within),
+        few-are l1 7 h.live.links 22 119 h.live.grafted grafted xs y2 (lit< tt) grafted-is (omega arith) (ap (λ (ts : List (List ℕ)). get_or ts 7 []) f2) old.grafts,
       )
 
-      module _ (z3 : List ℕ) (g3 : length z3 ≡ length (lent_at sp.grafted y2))
-          (w3 : listed 22 119 h.live.grafted z3 ≡ map (lower_listed i) (listed 22 119 h.live.grafted (lent_at sp.grafted y2))) where
+      module _ (z3 : List ℕ) (g3 : length z3 ≡ length (lent_at grafted y2))
+          (w3 : listed 22 119 h.live.grafted z3 ≡ map (lower_listed i) (listed 22 119 h.live.grafted (lent_at grafted y2)))
+          (missing : Range ℕ) (missing-is : missing ≡ span l1 9) where
         abbrev y3 : List ℕ
-        y3 = given_back sp.grafted y2 z3
+        y3 = given_back grafted y2 z3
 
         f3 : tables l1 y3 ≡ set t2 7 z3
-        f3 = lent-frame l1 7 sp.grafted y2 (lit< tt) sp.grafted-is z3 room2 g3 ∙ ap (λ (ts : List (List ℕ)). set ts 7 z3) f2
+        f3 = lent-frame l1 7 grafted y2 (lit< tt) grafted-is z3 room2 g3 ∙ ap (λ (ts : List (List ℕ)). set ts 7 z3) f2
 
         long3 : length y3 ≡ length xs
-        long3 = lent-long l1 7 sp.grafted y2 (lit< tt) sp.grafted-is z3 room2 g3 ∙ long2
+        long3 = lent-long l1 7 grafted y2 (lit< tt) grafted-is z3 room2 g3 ∙ long2
 
         n3 : listed 22 119 h.live.grafted z3 ≡ map (lower_listed i) (listed 22 119 h.live.grafted (T 7))
         n3 =
             w3
-            ∙ ap (λ (bs : List ℕ). map (lower_listed i) (listed 22 119 h.live.grafted bs)) (lent-table l1 7 sp.grafted y2 (lit< tt) sp.grafted-is ∙ ap (λ (ts : List (List ℕ)). get_or ts 7 []) f2)
+            ∙ ap (λ (bs : List ℕ). map (lower_listed i) (listed 22 119 h.live.grafted bs)) (lent-table l1 7 grafted y2 (lit< tt) grafted-is ∙ ap (λ (ts : List (List ℕ)). get_or ts 7 []) f2)
 
         room3 : end l1 ≤ length y3
         room3 = omega (arith, long3, fit.long)
 
-        pub fourth-asks : (h.live.missing * 129 ≤ length (lent_at sp.missing y3)) × AllFew 32 129 h.live.missing (lent_at sp.missing y3)
+        pub fourth-asks : (h.live.missing * 129 ≤ length (lent_at missing y3)) × AllFew 32 129 h.live.missing (lent_at missing y3)
         fourth-asks = (
-          omega (arith, lent-room l1 9 sp.missing y3 (lit< tt) sp.missing-is room3, fit.within),
-          few-are l1 9 h.live.links 32 129 h.live.missing sp.missing xs y3 (lit< tt) sp.missing-is (omega arith) (ap (λ (ts : List (List ℕ)). get_or ts 9 []) f3) old.missing,
+          omega (arith, lent-room l1 9 missing y3 (lit< tt) missing-is room3, fit.within),
+          few-are l1 9 h.live.links 32 129 h.live.missing missing xs y3 (lit< tt) missing-is (omega arith) (ap (λ (ts : List (List ℕ)). get_or ts 9 []) f3) old.missing,
         )
 
-        module _ (z4 : List ℕ) (m : ℕ) (g4 : length z4 ≡ length (lent_at sp.missing y3))
-            (w4 : (m ≤ h.live.missing) × (listed 32 129 m z4 ≡ filter announced (map (lower_listed i) (listed 32 129 h.live.missing (lent_at sp.missing y3))))) where
+        module _ (z4 : List ℕ) (m : ℕ) (g4 : length z4 ≡ length (lent_at missing y3))
+            (w4 : (m ≤ h.live.missing) × (listed 32 129 m z4 ≡ filter announced (map (lower_listed i) (listed 32 129 h.live.missing (lent_at missing y3))))) where
           abbrev y4 : List ℕ
-          y4 = given_back sp.missing y3 z4
+          y4 = given_back missing y3 z4
 
           pub all-steps : LoweredLinks i h xs (left_head q d m) y4
           all-steps =
               lowered-links (take s11 z1) (drop s11 z1) (take s13 z2) (drop s13 z2) z3 z4 y4 q d m
-              (lent-long l1 9 sp.missing y3 (lit< tt) sp.missing-is z4 room3 g4 ∙ long3)
-              (lent-frame l1 9 sp.missing y3 (lit< tt) sp.missing-is z4 room3 g4 ∙ ap (λ (ts : List (List ℕ)). set ts 9 z4) f3)
+              (lent-long l1 9 missing y3 (lit< tt) missing-is z4 room3 g4 ∙ long3)
+              (lent-frame l1 9 missing y3 (lit< tt) missing-is z4 room3 g4 ∙ ap (λ (ts : List (List ℕ)). set ts 9 z4) f3)
               w1.0 w2.0 w4.0 n1 n2 n3
               (w4.1
               ∙ ap (λ (bs : List ℕ). filter announced (map (lower_listed i) (listed 32 129 h.live.missing bs)))
-              (lent-table l1 9 sp.missing y3 (lit< tt) sp.missing-is ∙ ap (λ (ts : List (List ℕ)). get_or ts 9 []) f3))
+              (lent-table l1 9 missing y3 (lit< tt) missing-is ∙ ap (λ (ts : List (List ℕ)). get_or ts 9 []) f3))

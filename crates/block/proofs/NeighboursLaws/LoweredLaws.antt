@@ -1,7 +1,6 @@
 -- What is read from numbers with rows beside them goes by the pairs of both.
 -- Assumes nothing.
-use Rattle.std.proofs.Common.{◌≡◌, refl, ap, List, [], ◌∷◌, map, ℕ}
-use Rattle.storage.specs.Refs.Refs.{Ref, ref}
+use Rattle.block.proofs.Words.{◌≡◌, refl, ap, List, [], ◌∷◌, map, ℕ, Ref, ref}
 use Rattle.storage.specs.Refs.Numbers.{pairs}
 
 -- what is read from numbers and rows, by way of the pairs

@@ -1,23 +1,15 @@
 -- Numbers with rows beside them after a link went: what is read from them, and that they are below one link less.
 -- Assumes nothing.
-use Rattle.std.proofs.Common.{◌≡◌, refl, sym, ap, ◌∙◌, subst, ◌⊎◌, inl, inr, Bool, true, false, not, List, [], ◌∷◌, map, ℕ, zero, suc, ◌-◌, ◌≤◌, ◌<◌, zero-le, suc-le-suc, le_of_suc-le-suc, not-suc-le-zero, arith, eq-eqb, ne_eqb, eqb-true, eqb, length, take, get_or, if◌then◌else◌}
+use Rattle.block.proofs.Words.{◌≡◌, refl, sym, ap, ◌∙◌, subst, ◌⊎◌, inl, inr, Bool, true, false, not, List, [], ◌∷◌, map, ℕ, zero, suc, ◌-◌, ◌≤◌, ◌<◌, zero-le, suc-le-suc, le_of_suc-le-suc, not-suc-le-zero, arith, eq-eqb, ne_eqb, eqb-true, eqb, length, take, get_or, if◌then◌else◌, Map, Entry, entry, cases, true≢, length-filter, count-length, le_nat, rows, Ascending, length-rows, Ref, ref, places, Below, low_or_high, stays}
 use borrow.Author.Tests.{eqb-false}
 use lib.ListN.{length-map}
 use Rattle.storage.specs.Lists.Base.{filter}
-use Rattle.storage.specs.Lists.Map.{Map, Entry, entry, remove}
-use Rattle.storage.proofs.ListsLaws.MapLaws.{cases, true≢}
-use Rattle.storage.proofs.ListsLaws.ListLaws.{length-filter, count-length}
+use Rattle.storage.specs.Lists.Map.{remove}
 use Rattle.storage.proofs.ListsLaws.KeyLaws.{eqb-sym}
-use Rattle.storage.specs.Rows.Digits.{le_nat}
-use Rattle.storage.specs.Rows.Rows.{rows}
-use Rattle.storage.specs.Rows.Sorted.{Ascending}
-use Rattle.storage.proofs.RowsLaws.Rows.{length-rows}
-use Rattle.storage.specs.Refs.Refs.{Ref, ref, places, Below}
-use Rattle.storage.proofs.RefsLaws.Shifts.{low_or_high}
 use Rattle.protocol.specs.Push.{for_peer}
 use Rattle.protocol.specs.Neighbours.{without_announcer, without_notes}
 use Rattle.block.specs.View.{half_at, id_at, peer_of, note_of, hop_of, round_of}
-use Rattle.storage.specs.Refs.Numbers.{pairs, numbered, lowered, stays, lower, lower_all}
+use Rattle.storage.specs.Refs.Numbers.{pairs, numbered, lowered, lower, lower_all}
 use Rattle.block.specs.Neighbours.Lowered.{without_peer}
 use Rattle.block.proofs.NeighboursLaws.LoweredLaws.{read_by, pairs-read}
 use Rattle.storage.proofs.RefsLaws.Lowered.{lowered-low, lowered-high, named-lowered}

@@ -1,16 +1,10 @@
 -- Rows that end with a list of link numbers, after a link went: the list, the row, and one row after the other.
 -- Assumes nothing.
-use Rattle.std.proofs.Common.{◌≡◌, sym, ap, ◌∙◌, List, [], ◌∷◌, ◌++◌, map, ℕ, ◌+◌, ◌*◌, ◌≤◌, ◌<◌, arith, length, take, drop, get_or, set, length-drop, drop-drop, get_or-drop}
-use Rattle.storage.specs.Lists.Base.{filter}
-use Rattle.storage.proofs.ListsLaws.ListLaws.{filter_map}
-use Rattle.storage.specs.Rows.Part.{part, put}
-use Rattle.storage.specs.Rows.Rows.{rows, differs}
-use Rattle.storage.proofs.RowsLaws.Parts.{length_part, take_put, get_d_part, drop-take, put-cons, loan-put, put-drop, put_all}
-use Rattle.storage.proofs.RowsLaws.Rows.{row-end}
-use Rattle.storage.specs.Refs.Refs.{ref}
-use Rattle.storage.proofs.RefsLaws.Shifts.{done, done-read, done_more}
+use Rattle.block.proofs.Words.{◌≡◌, sym, ap, ◌∙◌, List, [], ◌∷◌, ◌++◌, map, ℕ, ◌+◌, ◌*◌, ◌≤◌, ◌<◌, arith, length, take, drop, get_or, set, drop-drop, filter, filter_map, put, rows, differs, length_part, take_put, get_d_part, drop-take, put-cons, loan-put, put-drop, put_all, row-end, ref, done-read, done_more, numbered, lower_all, entries}
+use Rattle.std.proofs.Common.{length-drop, get_or-drop}
+use Rattle.storage.specs.Rows.Part.{part}
+use Rattle.storage.proofs.RefsLaws.Shifts.{done}
 use Rattle.block.specs.View.{byte_at, hops_in}
-use Rattle.storage.specs.Refs.Numbers.{numbered, lower_all, entries}
 use Rattle.block.proofs.Tables.{view-at, view-set, length-view}
 use Rattle.storage.proofs.RefsLaws.Numbered.{length-numbered}
 use Rattle.block.specs.Neighbours.Lowered.{Listed, listed_of, listed, lower_listed, announced}

@@ -1,21 +1,15 @@
 -- What the tables hold after a link went: notes, missing messages, grafted messages.
 -- Assumes nothing.
-use Rattle.std.proofs.Common.{◌≡◌, refl, sym, ap, ◌∙◌, subst, Bool, true, false, not, List, [], ◌∷◌, map, ℕ, zero, suc, ◌+◌, ◌-◌, ◌≤◌, ◌<◌, zero-le, suc-le-suc, le_of_suc-le-suc, not-suc-le-zero, arith, eq-eqb, ne_eqb, eqb, length, take, drop, get_or, drop-drop, get_or-drop, take-take, if◌then◌else◌}
+use Rattle.block.proofs.Words.{◌≡◌, refl, sym, ap, ◌∙◌, subst, Bool, true, false, not, List, [], ◌∷◌, map, ℕ, zero, suc, ◌+◌, ◌-◌, ◌≤◌, ◌<◌, zero-le, suc-le-suc, le_of_suc-le-suc, not-suc-le-zero, arith, eq-eqb, ne_eqb, eqb, length, take, drop, get_or, drop-drop, take-take, if◌then◌else◌, is_empty, Map, Entry, entry, le_nat, be_nat, rows, Ascending, part-part, drop-take, get_d_part, Ref, ref, places, Below, Timed, ExpiryRow, expiry_rows, expiry_of, entry_of, row_at, Hop, Grafts, without_announcer, without_notes, numbered, lower_all}
+use Rattle.std.proofs.Common.{get_or-drop}
 use mathlib.Core.List.{map-map}
-use Rattle.storage.specs.Lists.Base.{filter, is_empty}
-use Rattle.storage.specs.Lists.Map.{Map, Entry, entry}
+use Rattle.storage.specs.Lists.Base.{filter}
 use Rattle.storage.specs.Rows.Part.{part}
-use Rattle.storage.specs.Rows.Digits.{le_nat, be_nat}
-use Rattle.storage.specs.Rows.Rows.{rows, field_of}
-use Rattle.storage.specs.Rows.Sorted.{Ascending}
-use Rattle.storage.proofs.RowsLaws.Parts.{part-part, drop-take, get_d_part}
-use Rattle.storage.specs.Refs.Refs.{Ref, ref, ref_of, refs, places, Below}
-use Rattle.time_cache.specs.TimeCache.{Timed}
-use Rattle.time_cache.specs.Tables.{ExpiryRow, expiry_rows, expiry_of, entry_of, row_at, cache_of}
-use Rattle.protocol.specs.State.{Hop, Grafts}
-use Rattle.protocol.specs.Neighbours.{without_announcer, forget_announcer, without_notes, without_graft, forget_grafted}
+use Rattle.storage.specs.Rows.Rows.{field_of}
+use Rattle.storage.specs.Refs.Refs.{ref_of, refs}
+use Rattle.time_cache.specs.Tables.{cache_of}
+use Rattle.protocol.specs.Neighbours.{forget_announcer, without_graft, forget_grafted}
 use Rattle.block.specs.View.{byte_at, half_at, id_at, flag_of, only_if, peer_of, note_of, notes_in, hops_in, hop_of, hops_of, missed_of, missing_in, round_of, grafts_of, grafted_in}
-use Rattle.storage.specs.Refs.Numbers.{numbered, lower_all}
 use Rattle.block.specs.Sound.{Numbered, AllNumbered}
 use Rattle.block.proofs.Each.{Each, each-numbered, numbered-each}
 use Rattle.block.specs.Neighbours.Lowered.{without_peer, Listed, listed_of, listed, lower_listed, announced}

@@ -1,11 +1,7 @@
 -- The four changes that raise the link numbers of a block, one after the other: queue, record, grafted rows, missing rows.
 -- Assumes nothing.
-use Rattle.std.proofs.Common.{◌≡◌, refl, sym, ap, ◌∙◌, subst, List, [], map, ℕ, ◌+◌, ◌*◌, ◌≤◌, ◌<◌, arith, lit<, length, take, get_or, set}
-use Rattle.std.specs.declared.ops.Range.{Range}
+use Rattle.block.proofs.Words.{◌≡◌, refl, sym, ap, ◌∙◌, subst, List, [], map, ℕ, ◌+◌, ◌*◌, ◌≤◌, ◌<◌, arith, lit<, length, take, get_or, set, Range, rows, Below, Limits, raised}
 use Rattle.storage.specs.Rows.Part.{part}
-use Rattle.storage.specs.Rows.Rows.{rows}
-use Rattle.storage.specs.Refs.Refs.{Below}
-use Rattle.protocol.specs.State.{Limits}
 use Rattle.block.specs.Layout.{sizes, place, span, tables, table, end}
 use Rattle.block.specs.View.{limits_of}
 use Rattle.block.specs.Sound.{Sound, AllNumbered}
@@ -13,7 +9,6 @@ use Rattle.block.specs.declared.head.Head.{Head}
 use Rattle.block.proofs.RowLaws.{part_in}
 use Rattle.block.specs.Neighbours.Raised.{raised_row, RaisedLinks}
 use Rattle.block.proofs.Lent.{lent_at, given_back, lent-table, lent-room, lent-frame, lent-long}
-use Rattle.storage.specs.Refs.Numbers.{raised}
 use Rattle.block.proofs.NeighboursLaws.RaisedLaws.{below_more}
 use Rattle.block.proofs.NeighboursLaws.UpLaws.{column-long, column-frame, raised-links}
 
@@ -43,18 +38,18 @@ module _ (h : Head) (xs : List ℕ) (sound : Sound h xs) (i : ℕ) (hi : i ≤ h
   rows-below : (t o s n : ℕ) (r : Range ℕ) (ys : List ℕ) → t < 15 → r ≡ span l t → table l t ys ≡ T t → AllNumbered h.live.links o s n (T t) → AllNumbered 255 o s n (lent_at r ys)
   rows-below t o s n r ys ht hr e b = subst (AllNumbered 255 o s n) (sym (lent-table l t r ys ht hr ∙ e)) (all_more h.live.links 255 o s n (T t) few-links b)
 
-  module _ (a11 a13 : ℕ) (e11 : a11 ≡ place l 11) (e13 : a13 ≡ place l 13) (r7 r9 : Range ℕ) (h7 : r7 ≡ span l 7) (h9 : r9 ≡ span l 9) where
+  module _ (a11 : ℕ) (e11 : a11 ≡ place l 11) where
     pub first-asks : Below 255 (part a11 h.live.queued xs)
     first-asks = subst (λ (a : ℕ). Below 255 (part a h.live.queued xs)) (sym e11) (column-below 11 h.live.queued xs (lit< tt) (omega (arith, sound.fit)) refl sound.laid.queue)
 
-    module _ (y1 : List ℕ) (w1 : y1 ≡ raised i a11 h.live.queued xs) where
+    module _ (y1 : List ℕ) (w1 : y1 ≡ raised i a11 h.live.queued xs) (a13 : ℕ) (e13 : a13 ≡ place l 13) where
       f1 : tables l y1 ≡ set (tables l xs) 11 (raised i 0 h.live.queued (T 11))
       f1 =
           ap (tables l) w1
           ∙ ap (λ (a : ℕ). tables l (raised i a h.live.queued xs)) e11
           ∙ column-frame l 11 (lit< tt) xs sound.fit.long i h.live.queued (omega (arith, sound.fit))
 
-      pub long1 : length y1 ≡ length xs
+      long1 : length y1 ≡ length xs
       long1 =
           ap length w1
           ∙ ap (λ (a : ℕ). length (raised i a h.live.queued xs)) e11
@@ -65,7 +60,7 @@ module _ (h : Head) (xs : List ℕ) (sound : Sound h xs) (i : ℕ) (hi : i ≤ h
           subst (λ (a : ℕ). Below 255 (part a h.live.dropped y1)) (sym e13)
           (column-below 13 h.live.dropped y1 (lit< tt) (omega (arith, sound.fit)) (ap (λ (ts : List (List ℕ)). get_or ts 13 []) f1) sound.laid.dropped)
 
-      module _ (y2 : List ℕ) (w2 : y2 ≡ raised i a13 h.live.dropped y1) where
+      module _ (y2 : List ℕ) (w2 : y2 ≡ raised i a13 h.live.dropped y1) (r7 : Range ℕ) (h7 : r7 ≡ span l 7) where
         f2 : tables l y2 ≡ set (set (tables l xs) 11 (raised i 0 h.live.queued (T 11))) 13 (raised i 0 h.live.dropped (T 13))
         f2 =
             ap (tables l) w2
@@ -73,7 +68,7 @@ module _ (h : Head) (xs : List ℕ) (sound : Sound h xs) (i : ℕ) (hi : i ≤ h
             ∙ column-frame l 13 (lit< tt) y1 (omega (arith, sound.fit.long, long1)) i h.live.dropped (omega (arith, sound.fit))
             ∙ ap (λ (ts : List (List ℕ)). set ts 13 (raised i 0 h.live.dropped (get_or ts 13 []))) f1
 
-        pub long2 : length y2 ≡ length xs
+        long2 : length y2 ≡ length xs
         long2 =
             ap length w2
             ∙ ap (λ (a : ℕ). length (raised i a h.live.dropped y1)) e13
@@ -92,7 +87,8 @@ module _ (h : Head) (xs : List ℕ) (sound : Sound h xs) (i : ℕ) (hi : i ≤ h
           rows-below 7 22 119 h.live.grafted r7 y2 (lit< tt) h7 (ap (λ (ts : List (List ℕ)). get_or ts 7 []) f2) sound.laid.grafts,
         )
 
-        module _ (z3 : List ℕ) (g3 : length z3 ≡ length (lent_at r7 y2)) (w3 : rows 119 h.live.grafted z3 ≡ map (raised_row i 22) (rows 119 h.live.grafted (lent_at r7 y2))) where
+        module _ (z3 : List ℕ) (g3 : length z3 ≡ length (lent_at r7 y2)) (w3 : rows 119 h.live.grafted z3 ≡ map (raised_row i 22) (rows 119 h.live.grafted (lent_at r7 y2)))
+            (r9 : Range ℕ) (h9 : r9 ≡ span l 9) where
           abbrev y3 : List ℕ
           y3 = given_back r7 y2 z3
 

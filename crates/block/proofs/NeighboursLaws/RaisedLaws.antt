@@ -1,19 +1,13 @@
 -- Link numbers after a link came in stand for the same peers: one law for numbers with rows beside them, and from it queue, record, missing and grafted.
 -- Assumes nothing.
-use Rattle.std.proofs.Common.{◌≡◌, refl, sym, ap, ◌∙◌, subst, List, [], ◌∷◌, ◌++◌, map, ℕ, suc, ◌+◌, ◌*◌, ◌≤◌, ◌<◌, zero-le, suc-le-suc, arith, length, take, drop, get_or, length-drop, drop-drop, get_or-drop, length-take-le}
+use Rattle.block.proofs.Words.{◌≡◌, refl, sym, ap, ◌∙◌, subst, List, [], ◌∷◌, ◌++◌, map, ℕ, suc, ◌+◌, ◌*◌, ◌≤◌, ◌<◌, zero-le, suc-le-suc, arith, length, take, drop, get_or, drop-drop, entry, put, le_nat, be_nat, rows, length_part, part-put, part-before, drop-put, get_or-put-before, put-drop, length-rows, get_d_rows, row-end, Ref, ref, places, shifted, Below, get_or-map-in, named-shifted, shifted-le, ExpiryRow, expiry_rows, expiry_of, entry_of, row_at, Grafts}
+use Rattle.std.proofs.Common.{length-drop, get_or-drop, length-take-le}
 use mathlib.Core.List.{map-map}
 use lib.ListN.{length-map}
-use Rattle.storage.specs.Lists.Map.{entry}
-use Rattle.storage.specs.Rows.Part.{part, put}
-use Rattle.storage.specs.Rows.Digits.{le_nat, be_nat}
-use Rattle.storage.specs.Rows.Rows.{rows, field_of}
-use Rattle.storage.proofs.RowsLaws.Parts.{length_part, part-put, part-before, drop-put, get_or-put-before, put-drop}
-use Rattle.storage.proofs.RowsLaws.Rows.{length-rows, get_d_rows, row-end}
-use Rattle.storage.specs.Refs.Refs.{Ref, ref, ref_of, refs, places, shifted, Below}
-use Rattle.storage.proofs.RefsLaws.Places.{get_or-map-in}
-use Rattle.storage.proofs.RefsLaws.Shifts.{named-shifted, shifted-le}
-use Rattle.time_cache.specs.Tables.{ExpiryRow, expiry_rows, expiry_of, entry_of, row_at, cache_of}
-use Rattle.protocol.specs.State.{Grafts}
+use Rattle.storage.specs.Rows.Part.{part}
+use Rattle.storage.specs.Rows.Rows.{field_of}
+use Rattle.storage.specs.Refs.Refs.{ref_of, refs}
+use Rattle.time_cache.specs.Tables.{cache_of}
 use Rattle.block.specs.View.{byte_at, half_at, id_at, flag_of, only_if, peer_of, note_of, notes_in, hops_in, hop_of, hops_of, missed_of, missing_in, round_of, grafts_of, grafted_in}
 use Rattle.storage.specs.Refs.Numbers.{pairs, numbered, raised}
 use Rattle.block.specs.Sound.{Numbered, AllNumbered}

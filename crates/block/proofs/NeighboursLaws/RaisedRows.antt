@@ -1,13 +1,10 @@
 -- Rows with a list of link numbers inside, after a link came in: row after row, and what else stands in a row.
 -- Assumes nothing.
-use Rattle.std.proofs.Common.{◌≡◌, sym, ap, ◌∙◌, subst, List, [], ◌∷◌, map, ℕ, ◌+◌, ◌*◌, ◌≤◌, ◌<◌, arith, length, take, drop, get_or, drop-drop, get_or-drop}
+use Rattle.block.proofs.Words.{◌≡◌, sym, ap, ◌∙◌, subst, List, [], ◌∷◌, map, ℕ, ◌+◌, ◌*◌, ◌≤◌, ◌<◌, arith, length, take, drop, get_or, drop-drop, put, rows, length_part, part-part, get_d_part, length-rows, get_d_rows, rows-field, row-end, shifted, Below, done-read, done_more}
+use Rattle.std.proofs.Common.{get_or-drop}
 use lib.ListN.{length-map}
-use Rattle.storage.specs.Rows.Part.{part, put}
-use Rattle.storage.specs.Rows.Rows.{rows}
-use Rattle.storage.proofs.RowsLaws.Parts.{length_part, part-part, get_d_part}
-use Rattle.storage.proofs.RowsLaws.Rows.{length-rows, get_d_rows, rows-field, row-end}
-use Rattle.storage.specs.Refs.Refs.{shifted, Below}
-use Rattle.storage.proofs.RefsLaws.Shifts.{done, done-read, done_more}
+use Rattle.storage.specs.Rows.Part.{part}
+use Rattle.storage.proofs.RefsLaws.Shifts.{done}
 use Rattle.block.specs.View.{byte_at}
 use Rattle.block.specs.Sound.{Numbered}
 use Rattle.block.specs.Neighbours.Raised.{raised_row}

@@ -1,14 +1,8 @@
 -- A peer that is no neighbour has left no trace: nothing changes when it goes.
 -- Assumes nothing.
-use Rattle.std.proofs.Common.{◌≡◌, refl, sym, ap, ◌∙◌, Bool, true, false, not, ◌&&◌, List, [], ◌∷◌, map, ℕ, eqb-true, eqb, if◌then◌else◌}
+use Rattle.block.proofs.Words.{◌≡◌, refl, sym, ap, ◌∙◌, Bool, true, false, not, ◌&&◌, List, [], ◌∷◌, map, ℕ, eqb-true, eqb, if◌then◌else◌, is_empty, all, once, ascending, Map, Entry, entry, keys, remove, cases, true≢, and_left, and_right, all_head, all_tail, all-imp, all_map, filter-all, Timed, Links, is_neighbour, State, Note, Hop, Grafts}
 use borrow.Author.Tests.{not-true}
-use Rattle.storage.specs.Lists.Base.{is_empty, all, once, ascending}
-use Rattle.storage.specs.Lists.Map.{Map, Entry, entry, keys, remove}
-use Rattle.storage.proofs.ListsLaws.MapLaws.{cases, true≢, and_left, and_right, all_head, all_tail}
-use Rattle.storage.proofs.ListsLaws.ListLaws.{all-imp, all_map, filter-all}
-use Rattle.time_cache.specs.TimeCache.{Timed}
-use Rattle.protocol.specs.Links.{Links, is_neighbour, link_down}
-use Rattle.protocol.specs.State.{State, Note, Hop, Grafts}
+use Rattle.protocol.specs.Links.{link_down}
 use Rattle.protocol.specs.Push.{for_peer}
 use Rattle.protocol.specs.Whole.{neighbours, announcers_whole, grafts_whole}
 use Rattle.protocol.specs.Neighbours.{without_announcer, forget_announcer, without_notes, without_graft, forget_grafted, forget_peer}

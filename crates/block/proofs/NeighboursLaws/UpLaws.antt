@@ -1,13 +1,7 @@
 -- A link that comes in: the link numbers of the whole block, then the row of the link.
 -- Assumes nothing.
-use Rattle.std.proofs.Common.{◌≡◌, sym, ap, ◌∙◌, subst, List, map, ℕ, ◌+◌, ◌*◌, ◌≤◌, ◌<◌, arith, lit<, length, take, get_or, set}
+use Rattle.block.proofs.Words.{◌≡◌, sym, ap, ◌∙◌, subst, List, map, ℕ, ◌+◌, ◌*◌, ◌≤◌, ◌<◌, arith, lit<, length, take, get_or, set, keys, part, put, rows, length_part, length-put, shifted, Below, Limits}
 use lib.ListN.{length-map}
-use Rattle.storage.specs.Lists.Map.{keys}
-use Rattle.storage.specs.Rows.Part.{part, put}
-use Rattle.storage.specs.Rows.Rows.{rows}
-use Rattle.storage.proofs.RowsLaws.Parts.{length_part, length-put}
-use Rattle.storage.specs.Refs.Refs.{shifted, Below}
-use Rattle.protocol.specs.State.{Limits}
 use Rattle.block.specs.Layout.{sizes, place, tables, table, end}
 use Rattle.block.specs.View.{limits_of, view_with, state_of}
 use Rattle.block.specs.Fit.{Fit}

@@ -1,7 +1,8 @@
 // `cache`, the message cache: an entry is a place and a round; a row is a time, an identifier, and start and length of the content.
 use crate::caches::contents;
-use crate::head;
 use crate::head::Head;
+use crate::layout;
+use crate::layout::Layout;
 use crate::panel::{Panel, View};
 use crate::time_caches::PanelCache;
 use arrayvec::ArrayVec;
@@ -51,14 +52,14 @@ impl PanelCache for MessageCache {
 
     // Tables 4 and 5.
     #[tactic(auto, using(crate::proofs::CachesLaws::CachedLaws::cached_stands))]
-    fn table(head: &Head) -> TimeBoundCache {
+    fn tables(head: &Head, layout: &Layout) -> TimeBoundCache {
         let entries = Table {
-            at: head::cached_at(head.limits),
+            at: layout.start(layout::Table::Cached),
             stride: ENTRY_WIDTH,
             len: head.live.cached,
         };
         let expiry = Table {
-            at: head::cached_rows_at(head.limits),
+            at: layout.start(layout::Table::CachedRows),
             stride: ROW_WIDTH,
             len: head.live.cached_rows,
         };
@@ -89,7 +90,7 @@ impl<'a> View<'a> {
         ensures at { result ≡ row_of self.now.head.now self.now.block.now entry }
         ensures within { result < self.now.head.now.live.cached_rows }
     {
-        MessageCache::table(self.head).place(self.block, entry)
+        MessageCache::table(self).place(self.block, entry)
     }
 
     // The content of a cached message: "the part .. of the store that holds it".
@@ -98,10 +99,10 @@ impl<'a> View<'a> {
         ensures content { result.now ≡ (cached_at (shown self.now) entry).content }
         ensures few { length result.now ≤ (shown self.now).limits.B }
     {
-        let row = head::cached_rows_at(self.head.limits) + ROW_WIDTH * self.cached_row(entry);
+        let row = self.start(layout::Table::CachedRows) + ROW_WIDTH * self.cached_row(entry);
         let start = word::load4(self.block, row + START) as usize;
         let len = word::load4(self.block, row + LEN) as usize;
-        let start = head::contents_at(self.head.limits) + start;
+        let start = self.start(layout::Table::Contents) + start;
         content::content_part(Content::InStore { start, len }, self.block)
     }
 
@@ -110,7 +111,7 @@ impl<'a> View<'a> {
         requires { entry < length (shown self.now).cache.entries }
         ensures { result.0 ≡ (cached_at (shown self.now) entry).round }
     {
-        let at = head::cached_at(self.head.limits) + ENTRY_WIDTH * entry;
+        let at = self.start(layout::Table::Cached) + ENTRY_WIDTH * entry;
         Round(word::load2(self.block, at + ROUND) as u16)
     }
 
@@ -130,7 +131,7 @@ impl<'a> View<'a> {
         requires { InOrder (shown self.now).cache }
         ensures { result ≡ not (is_empty (due instant.0 (shown self.now).cache.expiry)) }
     {
-        MessageCache::table(self.head).is_due(self.block, instant)
+        MessageCache::table(self).is_due(self.block, instant)
     }
 
     // The rows whose identifiers `expire_until` removes at an instant, "in order of removal". Its time is that of a pass over the entries and the rows that are due.
@@ -139,7 +140,7 @@ impl<'a> View<'a> {
         ensures keys { map (row_id self.now.head.now self.now.block.now) result.items ≡ expired_keys instant.0 (shown self.now).cache }
         ensures rows { All (λ r. r < self.now.head.now.live.cached_rows) result.items }
     {
-        let cache = MessageCache::table(self.head);
+        let cache = MessageCache::table(self);
         cache.expired_rows::<MAX_CACHED, MAX_CACHED_ROWS>(self.block, instant)
     }
 
@@ -148,12 +149,12 @@ impl<'a> View<'a> {
         requires { row < self.now.head.now.live.cached_rows }
         ensures { id_of result ≡ row_id self.now.head.now self.now.block.now row }
     {
-        MessageCache::table(self.head).key_at(self.block, row)
+        MessageCache::table(self).key_at(self.block, row)
     }
 }
 
 impl<'a> Panel<'a> {
-    ghost use Rattle.std.specs.Prelude.{◌≤◌};
+    ghost use Rattle.std.specs.Prelude.{◌≡◌, ◌≤◌, []};
     ghost use Rattle.storage.specs.Rows.Ident.{id_of};
     ghost use Rattle.time_cache.specs.TimeCache.{put};
     ghost use Rattle.block.specs.Sound.{held};
@@ -167,7 +168,11 @@ impl<'a> Panel<'a> {
         requires { InOrder (state self.old).cache }
         ensures { Goes (cached_left instant.0) self.old self.new }
     {
-        self.head = contents::expire_contents(self.head, self.block, instant);
+        let cache = MessageCache::tables(&self.head, self.layout);
+        let expired = cache.expire_until(self.block, instant, &mut []);
+        self.head.live.cached = expired.cache.entries.len;
+        self.head.live.cached_rows = expired.cache.expiry.len;
+        contents::close_contents(&mut self.head, self.layout, self.block);
     }
 
     // Gives a cached message another content, and leaves a message that is not cached. Its time is that of one pass over the contents and the rows behind it.
@@ -178,8 +183,22 @@ impl<'a> Panel<'a> {
     {
         if let Ok(entry) = MessageCache::find(&self.view(), id) {
             let row = self.view().cached_row(entry);
-            self.head = contents::resize_row(self.head, self.block, row, content);
+            contents::resize_row(&mut self.head, self.layout, self.block, row, content);
         }
+    }
+
+    // Puts a message in without its content: requires that no content is left of an entry that it overwrites.
+    fn enter_cached(&mut self, id: Id, round: Round, expires: Millis)
+        requires order { InOrder (state self.old).cache }
+        requires room { AtMost (state self.old).limits.C (put (id_of id) (message [] round.0) expires.0 (state self.old).cache) }
+        requires empty { held (put (id_of id) (message [] round.0) expires.0 (state self.old).cache).entries ≡ held (state self.old).cache.entries }
+        ensures { Goes (cached_also (id_of id) [] round.0 expires.0) self.old self.new }
+    {
+        let cache = MessageCache::tables(&self.head, self.layout);
+        let inserted = cache.insert(self.block, id, expires);
+        self.head.live.cached = inserted.cache.entries.len;
+        self.head.live.cached_rows = inserted.cache.expiry.len;
+        contents::store_empty(&self.head, self.layout, self.block, inserted, round);
     }
 
     // "cache at" a round, until `expires`: requires that what it leaves is within the limits. Its time is that of one pass over entries, rows and contents.
@@ -190,7 +209,7 @@ impl<'a> Panel<'a> {
         ensures { Goes (cached_also (id_of id) cached.entry.content.now cached.entry.round.0 expires.0) self.old self.new }
     {
         self.set_content(id, &cached.content[0..0]);
-        self.head = contents::insert_empty(self.head, self.block, id, cached.round, expires);
+        self.enter_cached(id, cached.round, expires);
         self.set_content(id, cached.content);
     }
 }

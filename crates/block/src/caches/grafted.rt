@@ -3,22 +3,19 @@ ghost use Rattle.std.specs.Prelude.{◌≡◌, ◌+◌, ◌≤◌, length};
 ghost use Rattle.storage.specs.Rows.Ident.{id_of};
 ghost use Rattle.storage.specs.Rows.Part.{put};
 ghost use Rattle.time_cache.specs.TimeCache.{put as put_in};
-ghost use Rattle.block.specs.View.{state_of};
-ghost use Rattle.block.specs.Sound.{Sound};
-ghost use Rattle.block.specs.Becomes.{Becomes};
-ghost use Rattle.block.specs.Heads.{with_grafted_counts};
 ghost use Rattle.block.specs.Caches.InBlock.{InOrder, AtMost};
 ghost use Rattle.block.specs.Caches.GraftSteps.{first_bytes, kept_bytes, no_grafts, entered_state, EnteredAt};
 
 use crate::head::Head;
 use crate::hops::Hop;
+use crate::layout::Layout;
 use crate::panel::{Panel, View};
 use crate::time_caches::PanelCache;
-use crate::{head, hops};
+use crate::{hops, layout};
 use postcard::units::{Millis, Round};
 use storage::rows::id::Id;
 use storage::rows::word;
-use time_cache::cache::{Inserted, Table, TimeBoundCache};
+use time_cache::cache::{Table, TimeBoundCache};
 
 // How many bytes an entry has, and where its parts stand: a flag and behind it the peer and the round of `first`, a flag and behind it the peer of `kept`,
 // and the list of the grafted peers.
@@ -61,14 +58,14 @@ impl PanelCache for GraftedMessages {
 
     // Tables 7 and 8.
     #[tactic(auto, using(crate::proofs::CachesLaws::GraftedLaws::grafted_stands))]
-    fn table(head: &Head) -> TimeBoundCache {
+    fn tables(head: &Head, layout: &Layout) -> TimeBoundCache {
         let entries = Table {
-            at: head::grafted_at(head.limits),
+            at: layout.start(layout::Table::Grafted),
             stride: ENTRY_WIDTH,
             len: head.live.grafted,
         };
         let expiry = Table {
-            at: head::grafted_rows_at(head.limits),
+            at: layout.start(layout::Table::GraftedRows),
             stride: ROW_WIDTH,
             len: head.live.grafted_rows,
         };
@@ -95,20 +92,6 @@ fn store_kept(block: &mut [u8], at: usize, peer: u64)
     word::store(block, at + KEPT_PEER, peer);
 }
 
-// Puts an entry in for which no peer is grafted yet: the header's counts are for the caller to set.
-fn insert_entry(head: &Head, block: &mut [u8], id: Id, expires: Millis) -> Inserted
-    requires order { Sound head.now block.old × InOrder (state_of head.now block.old).grafted }
-    requires room { AtMost (state_of head.now block.old).limits.G (put_in (id_of id) no_grafts expires.0 (state_of head.now block.old).grafted) }
-    ensures goes { Becomes (entered_state (id_of id) expires.0) head.now block.old (with_grafted_counts result.cache.entries.len result.cache.expiry.len head.now) block.new }
-    ensures entry { EnteredAt (id_of id) (state_of (with_grafted_counts result.cache.entries.len result.cache.expiry.len head.now) block.new) result.entry }
-{
-    let cache = GraftedMessages::table(head);
-    let inserted = cache.insert(block, id, expires);
-    let at = cache.entries.at + ENTRY_WIDTH * inserted.entry + FIRST;
-    word::store_le(block, at, PEERS + 1 - FIRST, 0);
-    inserted
-}
-
 impl<'a> View<'a> {
     ghost use Rattle.std.specs.Prelude.{◌*◌, ◌<◌, leb};
     ghost use Rattle.storage.specs.Lists.Base.{any};
@@ -127,7 +110,7 @@ impl<'a> View<'a> {
         ensures at { result ≡ place (limits_of self.now.head.now.limits) 7 + 119 * entry }
         ensures within { result + 119 ≤ length self.now.block.now }
     {
-        head::grafted_at(self.head.limits) + ENTRY_WIDTH * entry
+        self.start(layout::Table::Grafted) + ENTRY_WIDTH * entry
     }
 
     // How many peers are grafted for a grafted message.
@@ -237,7 +220,7 @@ impl<'a> Panel<'a> {
         requires { InOrder (state self.old).grafted }
         ensures { Goes (grafted_left instant.0) self.old self.new }
     {
-        let cache = GraftedMessages::table(&self.head);
+        let cache = GraftedMessages::tables(&self.head, self.layout);
         let expired = cache.expire_until(self.block, instant, &mut []);
         self.head.live.grafted = expired.cache.entries.len;
         self.head.live.grafted_rows = expired.cache.expiry.len;
@@ -305,7 +288,11 @@ impl<'a> Panel<'a> {
         ensures goes { Goes (entered_state (id_of id) expires.0) self.old self.new }
         ensures entry { EnteredAt (id_of id) (state self.new) result }
     {
-        let inserted = insert_entry(&self.head, self.block, id, expires);
+        let cache = GraftedMessages::tables(&self.head, self.layout);
+        let block = &mut *self.block;
+        let inserted = cache.insert(block, id, expires);
+        let at = cache.entries.at + ENTRY_WIDTH * inserted.entry + FIRST;
+        word::store_le(block, at, PEERS + 1 - FIRST, 0);
         self.head.live.grafted = inserted.cache.entries.len;
         self.head.live.grafted_rows = inserted.cache.expiry.len;
         inserted.entry

@@ -1,6 +1,7 @@
 // `received_messages`: an entry is a place, a row is a time and an identifier.
-use crate::head;
 use crate::head::Head;
+use crate::layout;
+use crate::layout::Layout;
 use crate::panel::{Panel, View};
 use crate::time_caches::PanelCache;
 use postcard::units::Millis;
@@ -27,14 +28,14 @@ impl PanelCache for ReceivedMessages {
 
     // Tables 2 and 3.
     #[tactic(auto, using(crate::proofs::CachesLaws::ReceivedLaws::received_stands))]
-    fn table(head: &Head) -> TimeBoundCache {
+    fn tables(head: &Head, layout: &Layout) -> TimeBoundCache {
         let entries = Table {
-            at: head::received_at(head.limits),
+            at: layout.start(layout::Table::Received),
             stride: ENTRY_WIDTH,
             len: head.live.received,
         };
         let expiry = Table {
-            at: head::received_rows_at(head.limits),
+            at: layout.start(layout::Table::ReceivedRows),
             stride: ROW_WIDTH,
             len: head.live.received_rows,
         };
@@ -70,7 +71,7 @@ impl<'a> Panel<'a> {
         requires room { AtMost (state self.old).limits.R (put (id_of id) tt expires.0 (state self.old).received) }
         ensures { Goes (received_also (id_of id) expires.0) self.old self.new }
     {
-        let cache = ReceivedMessages::table(&self.head);
+        let cache = ReceivedMessages::tables(&self.head, self.layout);
         let inserted = cache.insert(self.block, id, expires);
         self.head.live.received = inserted.cache.entries.len;
         self.head.live.received_rows = inserted.cache.expiry.len;
@@ -81,7 +82,7 @@ impl<'a> Panel<'a> {
         requires { InOrder (state self.old).received }
         ensures { Goes (received_left instant.0) self.old self.new }
     {
-        let cache = ReceivedMessages::table(&self.head);
+        let cache = ReceivedMessages::tables(&self.head, self.layout);
         let expired = cache.expire_until(self.block, instant, &mut []);
         self.head.live.received = expired.cache.entries.len;
         self.head.live.received_rows = expired.cache.expiry.len;

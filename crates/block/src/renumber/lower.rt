@@ -2,16 +2,19 @@
 // announcers (empty lists go), queue, record, grafted peers").
 ghost use Rattle.std.specs.Prelude.{◌≡◌, map, ◌+◌, ◌*◌, ◌≤◌, ◌<◌, length, get_or};
 ghost use Rattle.storage.specs.Lists.Base.{filter};
+ghost use Rattle.block.specs.View.{limits_of};
 ghost use Rattle.block.specs.Sound.{Sound};
+ghost use Rattle.block.specs.Layouts.{LaysOut};
 ghost use Rattle.block.specs.LinkSteps.{LinksAscend};
 ghost use Rattle.block.specs.Neighbours.Lowered.{listed_of, listed, lower_listed, announced, AllFew, LoweredLinks};
 
 use crate::caches::grafted::{ENTRY_WIDTH, PEERS};
 use crate::head::Head;
+use crate::hops;
 use crate::hops::Hops;
+use crate::layout::{Layout, Table};
 use crate::missing::Missed;
 use crate::note::Noted;
-use crate::{head, hops};
 use storage::refs::renumber;
 use storage::rows::table;
 use storage::tables::Row;
@@ -62,40 +65,37 @@ fn drop_announcers(bytes: &mut [u8], n: usize, i: usize) -> usize
 }
 
 // Every link number of the block, after link i went: queue, record, grafted and missing messages.
-pub fn lower_links(mut head: Head, block: &mut [u8], i: usize) -> Head
-    requires { Sound head block.old × LinksAscend head block.old × (i < head.live.links) }
-    ensures { LoweredLinks i head block.old result block.new }
+pub fn lower_links(head: &mut Head, layout: &Layout, block: &mut [u8], i: usize)
+    requires sound { Sound head.old block.old × LinksAscend head.old block.old }
+    requires layout { LaysOut layout.now (limits_of head.old.limits) }
+    requires there { i < head.old.live.links }
+    ensures { LoweredLinks i head.old block.old head.new block.new }
 {
-    let queue = head::queue_at(head.limits);
-    let queue_rows = head::queue_rows_at(head.limits);
-    let dropped = head::dropped_at(head.limits);
-    let dropped_rows = head::dropped_rows_at(head.limits);
-    let end = head::end_at(head.limits);
-    let grafted = head::grafted_at(head.limits);
-    let grafted_rows = head::grafted_rows_at(head.limits);
-    let missing = head::missing_at(head.limits);
-    let timers = head::timers_at(head.limits);
+    let queue = layout.start(Table::Queue);
+    let queue_rows = layout.start(Table::QueueRows);
+    let record = layout.start(Table::Record);
+    let record_rows = layout.span(Table::RecordRows);
     head.live.queued = renumber::drop_number(
-        &mut block[queue..dropped],
+        &mut block[queue..record],
         queue_rows - queue,
         Noted::WIDTH,
         head.live.queued,
         i,
     );
     head.live.dropped = renumber::drop_number(
-        &mut block[dropped..end],
-        dropped_rows - dropped,
+        &mut block[record..record_rows.end],
+        record_rows.start - record,
         Noted::WIDTH,
         head.live.dropped,
         i,
     );
     drop_in_rows(
-        &mut block[grafted..grafted_rows],
+        &mut block[layout.span(Table::Grafted)],
         ENTRY_WIDTH,
         head.live.grafted,
         PEERS,
         i,
     );
-    head.live.missing = drop_announcers(&mut block[missing..timers], head.live.missing, i);
-    head
+    let missing = &mut block[layout.span(Table::Missing)];
+    head.live.missing = drop_announcers(missing, head.live.missing, i);
 }

@@ -1,14 +1,17 @@
 // The link numbers of the block after a link came in.
 ghost use Rattle.std.specs.Prelude.{◌≡◌, ◌+◌, ◌*◌, ◌≤◌, map, length};
 ghost use Rattle.storage.specs.Rows.Rows.{rows};
+ghost use Rattle.block.specs.View.{limits_of};
 ghost use Rattle.block.specs.Sound.{Sound, AllNumbered};
+ghost use Rattle.block.specs.Layouts.{LaysOut};
 ghost use Rattle.block.specs.Neighbours.Raised.{raised_row, RaisedLinks};
 
 use crate::caches::grafted::{ENTRY_WIDTH, PEERS};
 use crate::head::Head;
+use crate::hops;
 use crate::hops::Hops;
+use crate::layout::{Layout, Table};
 use crate::missing::Missed;
-use crate::{head, hops};
 use storage::refs::renumber;
 use storage::tables::Row;
 
@@ -25,27 +28,22 @@ pub fn raise_rows(bytes: &mut [u8], stride: usize, n: usize, offset: usize, i: u
 }
 
 // Every link number of the block, after a link came in at i: queue, record, grafted and missing messages.
-pub fn raise_links(head: Head, block: &mut [u8], i: usize)
-    requires { Sound head block.old × (i ≤ head.live.links) }
-    ensures { RaisedLinks i head block.old block.new }
+pub fn raise_links(head: &Head, layout: &Layout, block: &mut [u8], i: usize)
+    requires sound { Sound head.now block.old × LaysOut layout.now (limits_of head.now.limits) }
+    requires there { i ≤ head.now.live.links }
+    ensures { RaisedLinks i head.now block.old block.new }
 {
-    let queue = head::queue_at(head.limits);
-    let dropped = head::dropped_at(head.limits);
-    let grafted = head::grafted_at(head.limits);
-    let grafted_rows = head::grafted_rows_at(head.limits);
-    let missing = head::missing_at(head.limits);
-    let timers = head::timers_at(head.limits);
-    renumber::raise_numbers(block, queue, head.live.queued, i);
-    renumber::raise_numbers(block, dropped, head.live.dropped, i);
+    renumber::raise_numbers(block, layout.start(Table::Queue), head.live.queued, i);
+    renumber::raise_numbers(block, layout.start(Table::Record), head.live.dropped, i);
     raise_rows(
-        &mut block[grafted..grafted_rows],
+        &mut block[layout.span(Table::Grafted)],
         ENTRY_WIDTH,
         head.live.grafted,
         PEERS,
         i,
     );
     raise_rows(
-        &mut block[missing..timers],
+        &mut block[layout.span(Table::Missing)],
         Missed::WIDTH,
         head.live.missing,
         Missed::ANNOUNCERS,

@@ -1,9 +1,9 @@
 -- How long each kind of action is at most, from the length of what it holds. A number takes at most ten bytes.
 -- Assumes nothing.
-use Rattle.std.proofs.Common.{Option, Some, None, ℕ, ◌+◌, ◌*◌, ◌≤◌, Bool, List, [], ◌∷◌, arith, length}
+use Rattle.machine.proofs.Words.{Option, Some, None, ℕ, ◌+◌, ◌*◌, ◌≤◌, Bool, List, [], ◌∷◌, arith, length, Delivery, Swarm, Neighbors, Ihave, Gossip, Prune, Graft, IHave, SendGraft, DispatchLazyPush, EvictCache, AnnounceDropped, Sent, Scheduled, Emitted}
 use Rattle.storage.specs.Lists.Base.{sum}
 use Rattle.postcard.specs.Number.{number_length}
-use Rattle.postcard.specs.Message.{Delivery, Swarm, Neighbors, Ihave, Gossip, Prune, Graft, IHave, Timer, SendGraft, DispatchLazyPush, EvictCache, AnnounceDropped, Sent, Scheduled, Emitted}
+use Rattle.postcard.specs.Message.{Timer}
 use Rattle.postcard.proofs.Lengths.{number-few}
 use Rattle.decide.specs.Lengths.{delivery_length, wanted_length, message_length, timer_length, action_length}
 

@@ -1,14 +1,10 @@
 -- The actions of a dispatch: for each peer at most as many IHave messages, and as many announcements in them, as the queue is long.
 -- Assumes nothing.
-use Rattle.std.proofs.Common.{ℕ, zero, suc, ◌+◌, ◌*◌, ◌≤◌, ◌≡◌, refl, ap, Bool, true, not, ◌||◌, List, [], ◌∷◌, arith, eqb, ltb, length, take, drop, length-append, take-append-drop, if◌then◌else◌}
+use Rattle.machine.proofs.Words.{ℕ, zero, suc, ◌+◌, ◌*◌, ◌≤◌, ◌≡◌, refl, ap, Bool, true, not, ◌||◌, List, [], ◌∷◌, arith, eqb, ltb, length, take, drop, length-append, take-append-drop, if◌then◌else◌, filter, any, cases, Ihave, AnnounceDropped, Scheduled, State, Note, Room}
 use lib.ListN.{length-map}
-use Rattle.storage.specs.Lists.Base.{filter, any, sum}
+use Rattle.storage.specs.Lists.Base.{sum}
 use Rattle.storage.specs.Lists.Map.{insert_key}
-use Rattle.storage.proofs.ListsLaws.MapLaws.{cases}
 use Rattle.storage.proofs.ListsLaws.ListLaws.{length-filter, count-length}
-use Rattle.postcard.specs.Message.{Ihave, AnnounceDropped, Scheduled}
-use Rattle.protocol.specs.State.{State, Note}
-use Rattle.protocol.specs.Run.{Room}
 use Rattle.protocol.specs.Push.{for_peer}
 use Rattle.protocol.specs.Ticks.{per_message, chunks, queued_for, queued_peers}
 use Rattle.decide.specs.RecordGrowth.{cached_in}

@@ -1,10 +1,8 @@
 -- Actions whose bytes are at most n in all, and how such lists are put together.
 -- Assumes nothing.
-use Rattle.std.proofs.Common.{ℕ, ◌+◌, ◌*◌, ◌≤◌, ◌≡◌, Bool, true, false, List, [], ◌∷◌, ◌++◌, map, arith, length, if◌then◌else◌}
+use Rattle.machine.proofs.Words.{ℕ, ◌+◌, ◌*◌, ◌≤◌, ◌≡◌, Bool, true, false, List, [], ◌∷◌, ◌++◌, map, arith, length, if◌then◌else◌, cases, Action}
 use Rattle.storage.proofs.RowsLaws.Rows.{mul-more}
 use Rattle.storage.specs.Lists.Base.{filter, sum}
-use Rattle.storage.proofs.ListsLaws.MapLaws.{cases}
-use Rattle.postcard.specs.Message.{Action}
 use Rattle.decide.specs.Lengths.{action_length}
 
 -- sums of lengths

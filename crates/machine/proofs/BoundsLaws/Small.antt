@@ -1,19 +1,16 @@
 -- What bounds the actions of a step: the links, the queue and the contents of the state are within the specification's ceilings, also once a first event has evicted.
 -- Assumes nothing.
-use Rattle.std.proofs.Common.{ℕ, ◌≤◌, ◌≡◌, Bool, true, false, not, ◌&&◌, List, [], ◌∷◌, arith, eqb, ltb, length, if◌then◌else◌}
-use Rattle.storage.specs.Lists.Base.{member, sum}
+use Rattle.machine.proofs.Words.{ℕ, ◌≤◌, ◌≡◌, Bool, true, false, not, ◌&&◌, List, [], ◌∷◌, arith, eqb, ltb, length, if◌then◌else◌, member, cases, Mark, Links, is_eager, State, Cached, with_init, with_received, with_grafted, with_cache, Sound, Head}
+use Rattle.block.specs.View.{state_of}
+use Rattle.storage.specs.Lists.Base.{sum}
 use Rattle.storage.specs.Lists.Map.{Map, lookup}
-use Rattle.storage.proofs.ListsLaws.MapLaws.{cases}
 use Rattle.storage.proofs.ListsLaws.ListLaws.{length-filter, count-length}
 use Rattle.time_cache.specs.TimeCache.{Timed, value_of, get, later_cache}
-use Rattle.protocol.specs.Links.{Mark, Links, is_eager, peers_marked, eager_peers}
-use Rattle.protocol.specs.State.{State, Cached, with_init, with_received, with_grafted, with_cache}
+use Rattle.protocol.specs.Links.{peers_marked, eager_peers}
 use Rattle.protocol.specs.Push.{eager_targets}
 use Rattle.decide.specs.Settled.{settled}
 use Rattle.decide.proofs.SizesAfter.{content_length}
-use Rattle.block.specs.View.{state_of}
-use Rattle.block.specs.Sound.{Sound, held}
-use Rattle.block.specs.declared.head.Head.{Head}
+use Rattle.block.specs.Sound.{held}
 use Rattle.block.proofs.LinkLaws.{count-links}
 use Rattle.block.proofs.NoteLaws.{count-queue}
 use Rattle.block.proofs.CachesLaws.CachedLaws.{count-cached-rows}

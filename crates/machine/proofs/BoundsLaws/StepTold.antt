@@ -1,20 +1,9 @@
 -- The output of any step can be told: its bytes, with those of a first event's work, are at most 2^40.
 -- Assumes nothing.
-use Rattle.std.proofs.Common.{ℕ, ◌+◌, ◌^◌, ◌≤◌, List, ◌++◌, arith, length}
-use Rattle.storage.specs.Lists.Base.{concat_map}
+use Rattle.machine.proofs.Words.{ℕ, ◌+◌, ◌^◌, ◌≤◌, List, ◌++◌, arith, length, concat_map, Neighbors, action_bytes, wanted_value, ihaves_value, State, Room, Sound, state_of, peer_at, Head, settled, settled_actions}
 use Rattle.storage.specs.Rows.Ident.{id_of}
-use Rattle.postcard.specs.Message.{Neighbors, action_bytes}
-use Rattle.postcard.specs.Values.{wanted_value}
-use Rattle.wire.specs.Reader.Values.{ihaves_value}
 use Rattle.wire.proofs.ReaderLaws.AnnouncedLaws.{announced_count}
-use Rattle.protocol.specs.State.{State}
-use Rattle.protocol.specs.Run.{Room}
-use Rattle.payloads.specs.OnLateGraftReply.{copy_kind}
-use Rattle.block.specs.Sound.{Sound}
-use Rattle.block.specs.View.{state_of}
-use Rattle.block.specs.LinkSteps.{peer_at}
-use Rattle.block.specs.declared.head.Head.{Head}
-use Rattle.decide.specs.Settled.{settled, settled_actions}
+use Rattle.payloads.specs.OnLateGraftReply.{late_value}
 use Rattle.decide.proofs.LengthLaws.{length-actions}
 use Rattle.machine.specs.Kinds.Meaning.{StepHeld, step_actions}
 use Rattle.machine.specs.declared.kinds.Step.{Step}
@@ -33,13 +22,13 @@ step-light rooms now t (step.NewSwarm m) s small held =
 step-light rooms now t (step.NewNeighbors sender content) s small held =
     light-more (emit-light sender content.now Neighbors held.short) (omega arith)
 step-light rooms now t (step.Late copy) s small held =
-    light-more (late-light rooms copy.sender (copy_kind copy s)) (omega arith)
+    light-more (late-light rooms copy.sender (late_value s copy.kind)) (omega arith)
 step-light rooms now t (step.Prune link) s small held = light-none
 step-light rooms now t (step.Graft link w) s small held = light-more (graft-light rooms (peer_at s link) (wanted_value w) s small) (omega arith)
 step-light rooms now t (step.IHave link ihaves) s small held =
     light-more (ihave-light (ihaves_value ihaves) s (omega (arith, announced_count ihaves.count ihaves.bytes.now ihaves.there, held.few))) (omega arith)
-step-light rooms now t (step.Broadcast id content) s small held =
-    light-more (broadcast-light rooms (id_of id) content.now s small held.short) (omega arith)
+step-light rooms now t (step.Broadcast m) s small held =
+    light-more (broadcast-light rooms (id_of m.id) m.content.now s small held.short) (omega arith)
 step-light rooms now t (step.SendGraft id) s small held = light-more (send-graft-light rooms (id_of id) s) (omega arith)
 step-light rooms now t step.DispatchLazyPush s small held = dispatch-light rooms s small
 step-light rooms now t step.EvictCache s small held = light-more (evict-light now s small) (omega arith)

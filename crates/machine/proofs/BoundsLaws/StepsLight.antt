@@ -1,14 +1,8 @@
 -- The actions of each kind of step but a dispatch are few and short: contents of an event at most 4,094 bytes, cached ones at most 1,048,576.
 -- Assumes nothing.
-use Rattle.std.proofs.Common.{ℕ, suc, ◌+◌, ◌*◌, ◌≤◌, Bool, false, not, ◌&&◌, ◌||◌, List, [], ◌∷◌, ◌++◌, map, arith, eqb, length, if◌then◌else◌, Option, Some, None}
-use Rattle.storage.specs.Lists.Base.{is_empty, member}
+use Rattle.machine.proofs.Words.{ℕ, suc, ◌+◌, ◌*◌, ◌≤◌, Bool, false, not, ◌&&◌, ◌||◌, List, [], ◌∷◌, ◌++◌, map, arith, eqb, length, if◌then◌else◌, Option, Some, None, is_empty, member, cases, Delivery, Swarm, Ihave, Gossip, SendGraft, DispatchLazyPush, EvictCache, AnnounceDropped, Scheduled, Emitted, Forgotten, is_neighbour, eager_in, State, Hop, Cached, Room}
 use Rattle.storage.specs.Lists.Map.{keys}
-use Rattle.storage.proofs.ListsLaws.MapLaws.{cases}
 use Rattle.time_cache.specs.TimeCache.{get, holds, expired_keys}
-use Rattle.postcard.specs.Message.{Delivery, Swarm, Ihave, Gossip, SendGraft, DispatchLazyPush, EvictCache, AnnounceDropped, Scheduled, Emitted, Forgotten}
-use Rattle.protocol.specs.Links.{is_neighbour, eager_in}
-use Rattle.protocol.specs.State.{State, Hop, Cached}
-use Rattle.protocol.specs.Run.{Room}
 use Rattle.protocol.specs.Push.{eager_targets}
 use Rattle.protocol.specs.Gossips.{announcers, grafted_for, graft_out, least_from, far_closer, Late, duplicate, repeated, faster}
 use Rattle.protocol.specs.Ticks.{oldest, younger, still_cached}

@@ -1,41 +1,39 @@
 -- Each event's step: once the tests are answered, the definitions of the whole call are those of the step.
 -- Assumes nothing.
-use Rattle.std.proofs.Common.{ℕ, ◌≤◌, ◌<◌, ◌≡◌, refl, sym, ap, ◌∙◌, subst, Bool, true, false, not, ◌&&◌, List, [], ◌∷◌, ◌++◌, arith, leb-true, leb-false, lt-ltb, le-ltb, eqb, ltb, leb, length, get_or, length-append, Option, Some}
-use Rattle.storage.specs.Lists.Base.{concat_map, all}
+use Rattle.machine.proofs.Words.{ℕ, ◌≤◌, ◌<◌, ◌≡◌, refl, sym, ap, ◌∙◌, subst, Bool, true, false, not, ◌&&◌, List, [], ◌∷◌, ◌++◌, arith, leb-true, leb-false, lt-ltb, le-ltb, eqb, ltb, leb, length, get_or, length-append, Option, Some, all, and_right, identifier, Delivery, Swarm, Neighbors, Ihave, Gossip, Prune, Graft, IHave, Received, Broadcast, Fired, SendGraft, DispatchLazyPush, EvictCache, AnnounceDropped, ihave_bytes, message_bytes, delivery_value, wanted_value, ihaves_value, Links, is_neighbour, State, Counts, Room, peer_at, settled_actions}
+use Rattle.storage.specs.Lists.Base.{concat_map}
 use Rattle.storage.specs.Lists.Map.{keys}
 use Rattle.storage.proofs.ListsLaws.Branches.{if-on, if-both, if-same}
-use Rattle.storage.proofs.ListsLaws.MapLaws.{and_right}
 use Rattle.storage.specs.Rows.Ident.{id_of}
 use Rattle.std.specs.Borrow.{Bor}
 use Rattle.storage.specs.declared.rows.id.Id.{Id}
-use Rattle.blake3.specs.Blake3.{identifier}
 use Rattle.time_cache.specs.TimeCache.{holds}
-use Rattle.postcard.specs.Message.{Delivery, Swarm, Neighbors, Ihave, Message, Gossip, Prune, Graft, IHave, Received, Broadcast, Fired, SendGraft, DispatchLazyPush, EvictCache, AnnounceDropped, ihave_bytes, message_bytes}
+use Rattle.postcard.specs.Message.{Message}
 use Rattle.postcard.specs.Sizes.{gossip_size}
-use Rattle.postcard.specs.Values.{delivery_value, wanted_value}
-use Rattle.wire.specs.Reader.Values.{ihaves_value}
 use Rattle.postcard.specs.declared.message.Delivery as declared
 use Rattle.postcard.specs.declared.message.Delivery.TheVariants as delivery
 use Rattle.postcard.specs.declared.units.Round.{Round}
 use Rattle.postcard.proofs.Lengths.{length-content, length-gossip, length-ihave, length-ihaves}
 use Rattle.wire.specs.declared.reader.ihaves.Ihaves.{Ihaves}
 use Rattle.wire.proofs.ReaderLaws.AnnouncedLaws.{announced_count}
-use Rattle.protocol.specs.Links.{Links, is_neighbour}
-use Rattle.protocol.specs.State.{State, Counts, size_in_range}
-use Rattle.protocol.specs.Run.{Room}
+use Rattle.protocol.specs.State.{size_in_range}
 use Rattle.protocol.specs.Answer.{last_round}
 use Rattle.protocol.specs.Ticks.{evict}
 use Rattle.protocol.specs.Consistent.{CoreOf, Ranged}
-use Rattle.block.specs.LinkSteps.{peer_at}
 use Rattle.block.specs.Found.{LinkAt}
 use Rattle.steps.proofs.NeighborLaws.{found-neighbour}
-use Rattle.decide.specs.Settled.{settled, settled_actions, received_before, too_far_before}
+use Rattle.decide.specs.Settled.{settled, received_before, too_far_before}
 use Rattle.decide.specs.ActionsAfter.{gossip_actions, message_actions, timer_actions, actions_after}
 use Rattle.decide.specs.StateAfter.{first_state, timer_state, gossip_state, message_state, state_after}
 use Rattle.decide.proofs.SettledLaws.{evicted, settled-received}
 use Rattle.announcements.specs.Ihaves.New.{is_received}
 use Rattle.announcements.proofs.IhavesLaws.ReceivedLaws.{received-actions, received-state}
 use Rattle.decide.specs.Counted.{message_counts, counts_after_call}
+use Rattle.steps.proofs.AtRestLaws.{settled-as}
+use Rattle.payloads.specs.OnLateGraftReply.{copy_kind, late_value, LateHeld}
+use Rattle.payloads.specs.declared.on_late_graft_reply.Late.{Late}
+use Rattle.payloads.specs.declared.on_gossip.Decision.{Decision}
+use Rattle.payloads.specs.declared.eager_push.Push.{Push}
 use Rattle.machine.specs.Kinds.Meaning.{step_actions, step_state, step_far, step_counts, counted_for, ContentHeld, ListHeld, StepHeld, SenderIs, Means}
 use Rattle.machine.specs.declared.kinds.Step.{Step}
 use Rattle.machine.specs.declared.kinds.Step.TheVariants as step
@@ -52,11 +50,11 @@ unfolding settled
 settled-links now s = if-on (λ (x : State). x.links) s.init _ _ ∙ if-same s.init refl refl
 
 -- a new message, and a copy of one received before
-abbrev pub news : ℕ → Id → Bor (List ℕ) → Round → Step
-news sender i content round = step.NewSwarm (record { sender = sender; id = i; content = content; round = round })
+abbrev pub news : ℕ → Id → Bor (List ℕ) → Round → Decision → Step
+news sender i content round d = step.NewSwarm (record { sender = sender; id = i; content = content; round = round; decision = d })
 
-abbrev pub copied : ℕ → Id → declared.Delivery → Step
-copied sender i d = step.Late (record { sender = sender; id = i; delivery = d })
+abbrev pub copied : ℕ → Id → Late → Step
+copied sender i k = step.Late (record { sender = sender; id = i; kind = k })
 
 -- what a message does, of the state that a first event leaves
 record Does (now : ℕ) (t : State) (r : Step) (sender : ℕ) (m : Message) : Type 0 where
@@ -109,35 +107,38 @@ far-valid now s sender id content d b c e q =
     ap (λ (x : Bool). x && last_round d && not (received_before now s id)) e ∙ ap (λ (x : Bool). last_round d && not x) r
 
 -- a valid one, received before
-does-late : (now : ℕ) (t : State) (sender : ℕ) (i : Id) (content : List ℕ) (d : declared.Delivery) → eqb (identifier content) (id_of i) ≡ true → holds (id_of i) t.received ≡ true →
-    Does now t (copied sender i d) sender (Gossip (id_of i) content (delivery_value d))
-unfolding message_actions gossip_actions message_state gossip_state message_counts step_actions step_state step_counts
-does-late now t sender i content (delivery.Swarm round) e q = record { actions = λ rooms. rw (e, q) refl; state = λ rooms. rw (e, q) refl; counts = λ c. rw (e, q) refl }
-does-late now t sender i content delivery.Neighbors e q = record { actions = λ rooms. rw (e, q) refl; state = λ rooms. rw (e, q) refl; counts = λ c. refl }
+module _ (now : ℕ) (sender : ℕ) (i : Id) (content : List ℕ) (d : declared.Delivery) (k : Late) (valid : eqb (identifier content) (id_of i) ≡ true) where
+  does-late : (t : State) → holds (id_of i) t.received ≡ true → late_value t k ≡ copy_kind sender i d t → Does now t (copied sender i k) sender (Gossip (id_of i) content (delivery_value d))
+  unfolding message_actions gossip_actions message_state gossip_state message_counts step_actions step_state step_counts
+  does-late t q e = by d e
+    where
+      by : (v : declared.Delivery) → late_value t k ≡ copy_kind sender i v t → Does now t (copied sender i k) sender (Gossip (id_of i) content (delivery_value v))
+      by (delivery.Swarm round) e = record { actions = λ rooms. rw (valid, q, ← e) refl; state = λ rooms. rw (valid, q, ← e) refl; counts = λ c. rw (valid, q) refl }
+      by delivery.Neighbors e = record { actions = λ rooms. rw (valid, q, ← e) refl; state = λ rooms. rw (valid, q, ← e) refl; counts = λ c. refl }
 
-pub means-late : (now : ℕ) (s : State) (sender : ℕ) (i : Id) (content : List ℕ) (d : declared.Delivery) → CoreOf s → eqb (identifier content) (id_of i) ≡ true →
-    holds (id_of i) (settled now s).received ≡ true → Means now s (copied sender i d) (Received sender (Gossip (id_of i) content (delivery_value d)))
-unfolding step_far
-means-late now s sender i content d c e q =
-    means-message now s (copied sender i d) sender (Gossip (id_of i) content (delivery_value d)) c
-    (far-valid now s sender (id_of i) content (delivery_value d) true c e q ∙ and-off (last_round (delivery_value d)))
-    (does-late now (settled now s) sender i content d e q)
-    tt
-    refl
+  pub means-late : (s : State) → CoreOf s → holds (id_of i) (settled now s).received ≡ true → late_value s k ≡ copy_kind sender i d (settled now s) → LateHeld s k
+      → Means now s (copied sender i k) (Received sender (Gossip (id_of i) content (delivery_value d)))
+  unfolding step_far
+  means-late s c q e h =
+      means-message now s (copied sender i k) sender (Gossip (id_of i) content (delivery_value d)) c
+      (far-valid now s sender (id_of i) content (delivery_value d) true c valid q ∙ and-off (last_round (delivery_value d)))
+      (does-late (settled now s) q (settled-as now s (λ (u : State). late_value u k) refl ∙ e))
+      h
+      refl
 
 -- a valid one, new
 module _ (now : ℕ) (s : State) (sender : ℕ) (i : Id) (content : Bor (List ℕ)) (core : CoreOf s) (valid : eqb (identifier content.now) (id_of i) ≡ true)
     (new : holds (id_of i) (settled now s).received ≡ false) (held : ContentHeld content.now) where
-  does-new-swarm : (round : Round) → Does now (settled now s) (news sender i content round) sender (Gossip (id_of i) content.now (Swarm round.0))
+  does-new-swarm : (decision : Decision) (round : Round) → Does now (settled now s) (news sender i content round decision) sender (Gossip (id_of i) content.now (Swarm round.0))
   unfolding message_actions gossip_actions message_state gossip_state message_counts step_actions step_state step_counts
-  does-new-swarm round = record { actions = λ rooms. rw (valid, new) refl; state = λ rooms. rw (valid, new) refl; counts = λ c. rw (valid, new) refl }
+  does-new-swarm decision round = record { actions = λ rooms. rw (valid, new) refl; state = λ rooms. rw (valid, new) refl; counts = λ c. rw (valid, new) refl }
 
-  pub means-new-swarm : (round : Round) → Means now s (news sender i content round) (Received sender (Gossip (id_of i) content.now (Swarm round.0)))
+  pub means-new-swarm : (decision : Decision) (round : Round) → Means now s (news sender i content round decision) (Received sender (Gossip (id_of i) content.now (Swarm round.0)))
   unfolding step_far last_round
-  means-new-swarm round =
-      means-message now s (news sender i content round) sender (Gossip (id_of i) content.now (Swarm round.0)) core
+  means-new-swarm decision round =
+      means-message now s (news sender i content round decision) sender (Gossip (id_of i) content.now (Swarm round.0)) core
       (far-valid now s sender (id_of i) content.now (Swarm round.0) false core valid new ∙ and-on (eqb round.0 65535))
-      (does-new-swarm round)
+      (does-new-swarm decision round)
       held
       refl
 
@@ -154,9 +155,9 @@ module _ (now : ℕ) (s : State) (sender : ℕ) (i : Id) (content : Bor (List �
       held
       refl
 
-  pub means-new : (d : declared.Delivery) (round : Round) → d ≡ delivery.Swarm round → Means now s (news sender i content round) (Received sender (Gossip (id_of i) content.now (delivery_value d)))
-  means-new d round e =
-      subst (λ (v : declared.Delivery). Means now s (news sender i content round) (Received sender (Gossip (id_of i) content.now (delivery_value v)))) (sym e) (means-new-swarm round)
+  pub means-new : (decision : Decision) (d : declared.Delivery) (round : Round) → d ≡ delivery.Swarm round → Means now s (news sender i content round decision) (Received sender (Gossip (id_of i) content.now (delivery_value d)))
+  means-new decision d round e =
+      subst (λ (v : declared.Delivery). Means now s (news sender i content round decision) (Received sender (Gossip (id_of i) content.now (delivery_value v)))) (sym e) (means-new-swarm decision round)
 
   pub means-near : (d : declared.Delivery) → d ≡ delivery.Neighbors → Means now s (step.NewNeighbors sender content) (Received sender (Gossip (id_of i) content.now (delivery_value d)))
   means-near d e =
@@ -246,8 +247,8 @@ means-oversize now s content c e = record {
 }
 
 -- one of size at most M
-module _ (now : ℕ) (s : State) (i : Id) (content : Bor (List ℕ)) (core : CoreOf s) (of : id_of i ≡ identifier content.now) (held : ContentHeld content.now) where
-  pub means-broadcast : ltb s.settings.max_message_size (gossip_size (length content.now)) ≡ false → Means now s (step.Broadcast i content) (Broadcast content.now)
+module _ (now : ℕ) (s : State) (i : Id) (content : Bor (List ℕ)) (push : Push) (core : CoreOf s) (of : id_of i ≡ identifier content.now) (held : ContentHeld content.now) where
+  pub means-broadcast : ltb s.settings.max_message_size (gossip_size (length content.now)) ≡ false → Means now s (step.Broadcast (record { id = i; content = content; push = push })) (Broadcast content.now)
   unfolding too_far_before actions_after state_after counts_after_call counted_for step_far step_actions step_state step_counts
   means-broadcast e = record {
     far = refl;

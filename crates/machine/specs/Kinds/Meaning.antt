@@ -16,7 +16,10 @@ use Rattle.block.specs.LinkSteps.{peer_at}
 use Rattle.decide.specs.Settled.{settled, settled_actions, too_far_before}
 use Rattle.decide.specs.ActionsAfter.{new_actions, late_actions, graft_actions, ihave_actions, broadcast_actions, send_graft_actions, dispatch_actions, evict_actions, announce_actions, actions_after}
 use Rattle.decide.specs.StateAfter.{new_state, graft_state, ihave_state, broadcast_state, send_graft_state, dispatch_state, announce_state, state_after}
-use Rattle.payloads.specs.OnLateGraftReply.{copy_kind, after_late}
+use Rattle.steps.specs.declared.call.Call.{Call}
+use Rattle.payloads.specs.Broadcast.{OwnPush}
+use Rattle.payloads.specs.OnGossip.{Decided}
+use Rattle.payloads.specs.OnLateGraftReply.{late_value, LateHeld, after_late}
 use Rattle.decide.specs.Counted.{raised, counts_after_call}
 use Rattle.machine.specs.declared.kinds.Step.{Step}
 use Rattle.machine.specs.declared.kinds.Step.TheVariants as step
@@ -26,10 +29,10 @@ use Rattle.protocol.specs.declared.TheConstants.{LAST_ROUND}
 unfoldable pub step_actions : List Room → ℕ → Step → State → List Action
 step_actions rooms now (step.NewSwarm m) s = new_actions rooms m.sender (id_of m.id) m.content.now m.round.0 s
 step_actions rooms now (step.NewNeighbors sender content) s = Emitted sender content.now Neighbors ∷ []
-step_actions rooms now (step.Late copy) s = late_actions rooms copy.sender (copy_kind copy s)
+step_actions rooms now (step.Late copy) s = late_actions rooms copy.sender (late_value s copy.kind)
 step_actions rooms now (step.Graft link w) s = graft_actions rooms (peer_at s link) (wanted_value w) s
 step_actions rooms now (step.IHave link ihaves) s = ihave_actions (ihaves_value ihaves) s
-step_actions rooms now (step.Broadcast id content) s = broadcast_actions rooms (id_of id) content.now s
+step_actions rooms now (step.Broadcast m) s = broadcast_actions rooms (id_of m.id) m.content.now s
 step_actions rooms now (step.SendGraft id) s = send_graft_actions rooms (id_of id) s
 step_actions rooms now step.DispatchLazyPush s = dispatch_actions rooms s
 step_actions rooms now step.EvictCache s = evict_actions now s
@@ -43,7 +46,7 @@ step_state rooms now (step.Late copy) s = after_late copy s
 step_state rooms now (step.Prune link) s = with_links (add_lazy (peer_at s link) s.links) s
 step_state rooms now (step.Graft link w) s = graft_state rooms (peer_at s link) (wanted_value w) s
 step_state rooms now (step.IHave link ihaves) s = ihave_state (peer_at s link) (ihaves_value ihaves) s
-step_state rooms now (step.Broadcast id content) s = broadcast_state rooms now (id_of id) content.now s
+step_state rooms now (step.Broadcast m) s = broadcast_state rooms now (id_of m.id) m.content.now s
 step_state rooms now (step.SendGraft id) s = send_graft_state now (id_of id) s
 step_state rooms now step.DispatchLazyPush s = dispatch_state rooms s
 step_state rooms now step.EvictCache s = evict now s
@@ -78,11 +81,18 @@ pub record ListHeld (s : State) (link : ℕ) (ihaves : Ihaves) : Type 0 where
 abbrev pub StepHeld : State → Step → Type 0
 StepHeld s (step.NewSwarm m) = ContentHeld m.content.now
 StepHeld s (step.NewNeighbors sender content) = ContentHeld content.now
+StepHeld s (step.Late copy) = LateHeld s copy.kind
 StepHeld s (step.Prune link) = link < length s.links
 StepHeld s (step.Graft link w) = link < length s.links
 StepHeld s (step.IHave link ihaves) = ListHeld s link ihaves
-StepHeld s (step.Broadcast id content) = ContentHeld content.now
+StepHeld s (step.Broadcast m) = ContentHeld m.content.now
 StepHeld s _ = Unit {0}
+
+-- what is decided of a step is right, of the state that a first event leaves
+abbrev pub StepDecided : Call → Step → State → Type 0
+StepDecided call (step.NewSwarm m) s = Decided call m.sender (id_of m.id) m.round.0 s m.decision
+StepDecided call (step.Broadcast m) s = OwnPush call (id_of m.id) s m.push
+StepDecided call _ s = Unit {0}
 
 -- the peer of an event: a received message's sender; 0 for the others
 abbrev pub peer_of : Event → ℕ

@@ -1,11 +1,8 @@
 -- The notes of what a push got back, link by link, and the loop that adds them.
 -- Assumes nothing.
-use Rattle.std.proofs.Common.{◌≡◌, refl, sym, Bool, List, [], ◌∷◌, ℕ}
-use Rattle.storage.specs.Lists.Base.{is_empty}
-use Rattle.postcard.specs.Message.{Ihave}
-use Rattle.protocol.specs.State.{State, Note, with_announce_scheduled}
+use Rattle.payloads.proofs.Words.{◌≡◌, refl, sym, Bool, List, [], ◌∷◌, ℕ, is_empty, Ihave, State, Note, with_announce_scheduled, add_note}
 use Rattle.protocol.specs.Consistent.{Flagged}
-use Rattle.decide.specs.RecordGrowth.{add_note, add_notes, add_batches, batches_for}
+use Rattle.decide.specs.RecordGrowth.{add_notes, add_batches, batches_for}
 use Rattle.decide.specs.StateAfter.{recorded_state}
 use Rattle.decide.proofs.StateLaws.{flag-stands}
 

@@ -1,18 +1,13 @@
 -- One pass over the record for all links: a number for each.
 -- Assumes nothing.
-use Rattle.std.proofs.Common.{◌≡◌, refl, sym, ap, ◌∙◌, subst, ◌⊎◌, inl, inr, Bool, true, false, not, ◌&&◌, ◌||◌, List, [], ◌∷◌, ◌++◌, ℕ, suc, ◌+◌, ◌≤◌, ◌<◌, arith, add-one, leb-true, leb-false, le-leb, lt-ltb, le-ltb, ne_eqb, eqb, leb, ltb, length, take, get_or, set, take-suc, take_all, get_or-set_same, get_or-set_other, if◌then◌else◌}
+use Rattle.payloads.proofs.Words.{◌≡◌, refl, sym, ap, ◌∙◌, ◌⊎◌, inl, inr, Bool, true, false, not, ◌&&◌, ◌||◌, List, [], ◌∷◌, ◌++◌, ℕ, suc, ◌+◌, ◌≤◌, ◌<◌, arith, add-one, leb-true, leb-false, le-leb, lt-ltb, le-ltb, ne_eqb, eqb, leb, ltb, length, take, get_or, set, take-suc, take_all, get_or-set_same, get_or-set_other, if◌then◌else◌, keys, cases, State, Note, for_peer, state_of, LinksAscend, peer_at, Head, LinkSet}
+use Rattle.std.proofs.Common.{subst}
 use borrow.Author.Tests.{lt-leb}
 use Rattle.storage.proofs.RowsLaws.Ids.{tri}
 use Rattle.storage.specs.Lists.Base.{count, any}
-use Rattle.storage.specs.Lists.Map.{keys}
-use Rattle.storage.proofs.ListsLaws.MapLaws.{cases}
 use Rattle.time_cache.proofs.Orders.{up_of}
-use Rattle.protocol.specs.State.{State, Note}
-use Rattle.protocol.specs.Push.{for_peer, notes}
-use Rattle.block.specs.View.{state_of}
-use Rattle.block.specs.LinkSteps.{LinksAscend, peer_at}
+use Rattle.protocol.specs.Push.{notes}
 use Rattle.block.specs.NoteSteps.{note}
-use Rattle.block.specs.declared.head.Head.{Head}
 use Rattle.block.proofs.LinkLaws.{count-peers}
 use Rattle.block.proofs.Scans.{keys-apart}
 use Rattle.payloads.specs.Eager.Targets.{hands_back}
@@ -157,10 +152,10 @@ module _ (h : Head) (xs : List ℕ) (up : LinksAscend h xs) (id : ℕ) where
     seen-set v k z = seen_step (set m x v) (get_or-set_same m x v 0 k ∙ z) (λ l n. get_or-set_other m x l v 0 n)
 
 -- both together
-pub wants : (sender : ℕ) (skip rooms : List ℕ) (id : ℕ) (s : State) (n : ℕ) (m r : List ℕ) → Starts sender skip rooms s n m → SeenFor s n id m r → Wants sender skip rooms id s n r
+pub wants : (to : LinkSet) (rooms : List ℕ) (id : ℕ) (s : State) (n : ℕ) (m r : List ℕ) → Starts to rooms n m → SeenFor s n id m r → Wants to rooms id s n r
 unfolding wants_note
-wants sender skip rooms id s n m r a b = record {
+wants to rooms id s n m r a b = record {
   each = λ l q.
       ap (λ (x : ℕ). ltb x 256) (b.each l q ∙ ap (seen (peer_at s l) id s.dropped) (a.each l q))
-      ∙ seen-tells (peer_at s l) id (hands_back sender skip rooms s l) s.dropped;
+      ∙ seen-tells (peer_at s l) id (hands_back to rooms l) s.dropped;
 }

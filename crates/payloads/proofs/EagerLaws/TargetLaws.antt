@@ -1,23 +1,18 @@
 -- The targets of an eager push, link by link, and those of them that hand it back.
 -- Assumes nothing.
-use Rattle.std.proofs.Common.{◌≡◌, refl, sym, ap, ◌∙◌, subst, Bool, true, false, not, ◌&&◌, List, [], ◌∷◌, ◌++◌, append-nil, ℕ, zero, suc, ◌+◌, ◌≤◌, ◌<◌, arith, add-one, ltb-true, lt-ltb, ne_eqb, eqb, leb, ltb, length, take, get_or, take-suc, take_all, get_or-take, length-take-le, if◌then◌else◌}
+use Rattle.payloads.proofs.Words.{◌≡◌, refl, sym, ap, ◌∙◌, Bool, true, false, not, ◌&&◌, List, [], ◌∷◌, ◌++◌, append-nil, ℕ, suc, ◌+◌, ◌≤◌, ◌<◌, arith, add-one, ne_eqb, eqb, leb, length, map, take, get_or, take-suc, take_all, All, if◌then◌else◌, get_or-map, ascending, Entry, entry, keys, cases, true≢, and_left, and_right, filter-append, Mark, eager, lazy, quiet, Links, is_eager, State, Room, kth_taken, link_at, peer_at, has_link, links_below, links_of, AllBelow, LinkSet, below-start, below-in, below-out, below-of, below-wider, each-below, rooms_of, Call}
+use Rattle.std.proofs.Common.{subst}
+use Rattle.std.proofs.lemmas.List.{map-append}
 use borrow.Author.Tests.{not-true, not-false}
-use lib.ListN.{length-map, get_or-map}
-use Rattle.storage.specs.Lists.Base.{filter, member, all, ascending}
-use Rattle.storage.specs.Lists.Map.{Map, Entry, entry, keys}
-use Rattle.storage.proofs.ListsLaws.MapLaws.{cases, and_left, and_right, all_head, all_tail, all_cons}
-use Rattle.storage.proofs.ListsLaws.ListLaws.{filter-append, all_filter}
-use Rattle.storage.proofs.ListsLaws.Places.{at_all}
+use lib.ListN.{length-map}
+use Rattle.storage.specs.Lists.Base.{filter, member}
 use Rattle.time_cache.proofs.Orders.{up_of}
-use Rattle.protocol.specs.Links.{Mark, eager, lazy, quiet, Links, is_eager, peers_marked, eager_peers}
-use Rattle.protocol.specs.State.{State}
-use Rattle.protocol.specs.Run.{Room}
+use Rattle.protocol.specs.Links.{peers_marked, eager_peers}
 use Rattle.protocol.specs.Push.{eager_targets}
-use Rattle.decide.specs.Rooms.{kth_taken, back_peers}
-use Rattle.block.specs.LinkSteps.{link_at, peer_at}
+use Rattle.decide.specs.Rooms.{back_peers}
+use Rattle.block.proofs.Scans.{keys-apart}
 use Rattle.payloads.specs.Eager.Targets.{is_target, hands_back}
-use Rattle.steps.specs.Calls.{rooms_of}
-use Rattle.steps.specs.declared.call.Call.{Call}
+use Rattle.payloads.specs.EagerPush.Targets.{link_peers, TargetsAre, push_backs}
 
 if-append : {A : Type 0} (t : Bool) (x : A) (xs ys : List A) → (if t then x ∷ (xs ++ ys) else xs ++ ys) ≡ (if t then x ∷ xs else xs) ++ ys
 if-append true x xs ys = refl
@@ -59,19 +54,19 @@ module _ (me sender : ℕ) (skip : List ℕ) where
 
 module _ (sender : ℕ) (skip : List ℕ) (s : State) where
   -- the targets among the first i links
-  abbrev pub first : ℕ → List ℕ
-  first i = targets_in s.settings.me sender skip (take i s.links)
+  abbrev pub targets_to : ℕ → List ℕ
+  targets_to i = targets_in s.settings.me sender skip (take i s.links)
 
-  pub first-none : first 0 ≡ []
+  targets-none : targets_to 0 ≡ []
   unfolding targets_in eager_peers peers_marked filter
-  first-none = refl
+  targets-none = refl
 
   whole : targets_in s.settings.me sender skip s.links ≡ eager_targets sender skip s
   unfolding targets_in eager_targets
   whole = refl
 
-  pub first-all : (i : ℕ) → length s.links ≤ i → first i ≡ eager_targets sender skip s
-  first-all i h = ap (targets_in s.settings.me sender skip) (take_all i s.links h) ∙ whole
+  targets-all : (i : ℕ) → length s.links ≤ i → targets_to i ≡ eager_targets sender skip s
+  targets-all i h = ap (targets_in s.settings.me sender skip) (take_all i s.links h) ∙ whole
 
   module _ (i : ℕ) (q : i < length s.links) where
     one : targets_in s.settings.me sender skip (link_at s i ∷ []) ≡ (if is_target sender skip s i then peer_at s i ∷ [] else [])
@@ -81,19 +76,61 @@ module _ (sender : ℕ) (skip : List ℕ) (s : State) where
         ∙ ap (λ (p : ℕ). if is_eager (link_at s i).value && passes s.settings.me sender skip p then p ∷ [] else [])
         (sym (get_or-map (λ (e : Entry Mark). e.key) s.links i (entry 0 eager)))
 
-    first_more : first (i + 1) ≡ first i ++ (if is_target sender skip s i then peer_at s i ∷ [] else [])
-    first_more =
-        ap first (add-one i)
+    targets-more : targets_to (i + 1) ≡ targets_to i ++ (if is_target sender skip s i then peer_at s i ∷ [] else [])
+    targets-more =
+        ap targets_to (add-one i)
         ∙ ap (targets_in s.settings.me sender skip) (take-suc s.links i (entry 0 eager) q)
         ∙ targets-append s.settings.me sender skip (take i s.links) (link_at s i ∷ [])
-        ∙ ap (λ (l : List ℕ). first i ++ l) one
+        ∙ ap (λ (l : List ℕ). targets_to i ++ l) one
 
-    -- link i is one more, or none
-    pub first-in : is_target sender skip s i ≡ true → first (i + 1) ≡ first i ++ (peer_at s i ∷ [])
-    first-in e = first_more ∙ ap (λ (b : Bool). first i ++ (if b then peer_at s i ∷ [] else [])) e
+-- the peers of a set's links, link by link
+module _ (to : LinkSet) (s : State) where
+  -- those among the first i links
+  abbrev pub first : ℕ → List ℕ
+  first i = map (peer_at s) (links_below to i)
 
-    pub first_out : is_target sender skip s i ≡ false → first (i + 1) ≡ first i
-    first_out e = first_more ∙ ap (λ (b : Bool). first i ++ (if b then peer_at s i ∷ [] else [])) e ∙ append-nil (first i)
+  pub first-none : first 0 ≡ []
+  first-none = ap (map (peer_at s)) (below-start to)
+
+  pub first-all : (i : ℕ) → i ≡ length s.links → length s.links ≤ 32 → AllBelow to (length s.links) → first i ≡ link_peers to s
+  first-all i e q b = ap (map (peer_at s)) (ap (links_below to) e ∙ below-of to (length s.links) b q)
+
+  -- link i is one more, or none
+  pub first-in : (i : ℕ) → has_link to i ≡ true → first (i + 1) ≡ first i ++ (peer_at s i ∷ [])
+  first-in i e = ap (map (peer_at s)) (below-in to i e) ∙ map-append (peer_at s) (links_below to i) (i ∷ [])
+
+  pub first_out : (i : ℕ) → has_link to i ≡ false → first (i + 1) ≡ first i
+  first_out i e = ap (map (peer_at s)) (below-out to i e)
+
+-- the set of the targets, link by link
+pub record TargetsSofar (sender : ℕ) (skip : List ℕ) (s : State) (i : ℕ) (to : LinkSet) : Type 0 where
+  pub below : AllBelow to i
+  pub same : targets_to sender skip s i ≡ link_peers to s
+
+module _ (sender : ℕ) (skip : List ℕ) (s : State) where
+  pub sofar-none : (to : LinkSet) → links_of to ≡ [] → AllBelow to 0 → TargetsSofar sender skip s 0 to
+  sofar-none to e b = record { below = b; same = targets-none sender skip s ∙ sym (ap (map (peer_at s)) e) }
+
+  pub sofar-all : (i : ℕ) (to : LinkSet) → i ≡ length s.links → TargetsSofar sender skip s i to → TargetsAre sender skip s to
+  sofar-all i to e a = record { below = subst (AllBelow to) e a.below; same = sym (targets-all sender skip s i (omega (arith, e))) ∙ a.same }
+
+  module _ (i : ℕ) (q : i < length s.links) (to : LinkSet) (a : TargetsSofar sender skip s i to) (t : Bool) (e : t ≡ is_target sender skip s i) where
+    more : targets_to sender skip s (i + 1) ≡ targets_to sender skip s i ++ (if t then peer_at s i ∷ [] else [])
+    more = targets-more sender skip s i q ∙ ap (λ (b : Bool). targets_to sender skip s i ++ (if b then peer_at s i ∷ [] else [])) (sym e)
+
+    pub sofar-in : t ≡ true → (next : LinkSet) → links_of next ≡ links_of to ++ (i ∷ []) → AllBelow next (i + 1) → TargetsSofar sender skip s (i + 1) next
+    sofar-in y next n b = record {
+      below = b;
+      same = more ∙ ap (λ (b : Bool). targets_to sender skip s i ++ (if b then peer_at s i ∷ [] else [])) y
+          ∙ ap (λ (ps : List ℕ). ps ++ (peer_at s i ∷ [])) a.same
+          ∙ sym (ap (map (peer_at s)) n ∙ map-append (peer_at s) (links_of to) (i ∷ []));
+    }
+
+    pub sofar-out : t ≡ false → TargetsSofar sender skip s (i + 1) to
+    sofar-out n = record {
+      below = below-wider to i (i + 1) a.below (omega arith);
+      same = more ∙ ap (λ (b : Bool). targets_to sender skip s i ++ (if b then peer_at s i ∷ [] else [])) n ∙ append-nil (targets_to sender skip s i) ∙ a.same;
+    }
 
 -- those that hand it back
 
@@ -111,82 +148,71 @@ module _ (rooms : List Room) where
   back-taken p e = ap (λ (b : Bool). if not b then p ∷ [] else []) e
 
 -- those among the first i links
-abbrev pub backs_to : ℕ → List ℕ → Call → State → ℕ → List ℕ
-backs_to sender skip call s i = back_peers (rooms_of call s) (first sender skip s i)
+abbrev pub backs_to : LinkSet → Call → State → ℕ → List ℕ
+backs_to to call s i = back_peers (rooms_of call s) (first to s i)
 
-module _ (sender : ℕ) (skip : List ℕ) (call : Call) (s : State) where
+module _ (to : LinkSet) (call : Call) (s : State) where
   abbrev backs : ℕ → List ℕ
-  backs i = backs_to sender skip call s i
+  backs i = backs_to to call s i
 
   pub backs-none : backs 0 ≡ []
   unfolding back_peers filter
-  backs-none = ap (back_peers (rooms_of call s)) (first-none sender skip s)
+  backs-none = ap (back_peers (rooms_of call s)) (first-none to s)
 
-  pub backs-all : (i : ℕ) → length s.links ≤ i → backs i ≡ back_peers (rooms_of call s) (eager_targets sender skip s)
-  backs-all i h = ap (back_peers (rooms_of call s)) (first-all sender skip s i h)
+  pub backs-all : (i : ℕ) → i ≡ length s.links → length s.links ≤ 32 → AllBelow to (length s.links) → backs i ≡ push_backs call to s
+  backs-all i e q b = ap (back_peers (rooms_of call s)) (first-all to s i e q b)
+
+  -- it is not pushed to
+  pub backs-out : (i : ℕ) → has_link to i ≡ false → backs (i + 1) ≡ backs i
+  backs-out i e = ap (back_peers (rooms_of call s)) (first_out to s i e)
 
   module _ (roomed : Roomed s call) (i : ℕ) (q : i < length s.links) where
     -- link i is pushed to, and has no room
-    pub backs-held : is_target sender skip s i ≡ true → leb 1 (get_or call.rooms.now.links i 0) ≡ false → backs (i + 1) ≡ backs i ++ (peer_at s i ∷ [])
+    pub backs-held : has_link to i ≡ true → leb 1 (get_or call.rooms.now.links i 0) ≡ false → backs (i + 1) ≡ backs i ++ (peer_at s i ∷ [])
     backs-held e z =
-        ap (back_peers (rooms_of call s)) (first-in sender skip s i q e)
-        ∙ back-append (rooms_of call s) (first sender skip s i) (peer_at s i ∷ [])
+        ap (back_peers (rooms_of call s)) (first-in to s i e)
+        ∙ back-append (rooms_of call s) (first to s i) (peer_at s i ∷ [])
         ∙ ap (λ (l : List ℕ). backs i ++ l) (back-held (rooms_of call s) (peer_at s i) (roomed.first i q ∙ z))
 
     -- it is pushed to, and has room
-    pub backs-taken : is_target sender skip s i ≡ true → leb 1 (get_or call.rooms.now.links i 0) ≡ true → backs (i + 1) ≡ backs i
+    pub backs-taken : has_link to i ≡ true → leb 1 (get_or call.rooms.now.links i 0) ≡ true → backs (i + 1) ≡ backs i
     backs-taken e z =
-        ap (back_peers (rooms_of call s)) (first-in sender skip s i q e)
-        ∙ back-append (rooms_of call s) (first sender skip s i) (peer_at s i ∷ [])
+        ap (back_peers (rooms_of call s)) (first-in to s i e)
+        ∙ back-append (rooms_of call s) (first to s i) (peer_at s i ∷ [])
         ∙ ap (λ (l : List ℕ). backs i ++ l) (back-taken (rooms_of call s) (peer_at s i) (roomed.first i q ∙ z))
         ∙ append-nil (backs i)
 
-    -- it is not pushed to
-    pub backs-out : is_target sender skip s i ≡ false → backs (i + 1) ≡ backs i
-    backs-out e = ap (back_peers (rooms_of call s)) (first_out sender skip s i q e)
-
-    pub backs-yes : hands_back sender skip call.rooms.now.links s i ≡ true → backs (i + 1) ≡ backs i ++ (peer_at s i ∷ [])
+    pub backs-yes : hands_back to call.rooms.now.links i ≡ true → backs (i + 1) ≡ backs i ++ (peer_at s i ∷ [])
     unfolding hands_back
     backs-yes e =
-        backs-held (and_left (is_target sender skip s i) (not (leb 1 (get_or call.rooms.now.links i 0))) e)
-        (not-true (leb 1 (get_or call.rooms.now.links i 0)) (and_right (is_target sender skip s i) (not (leb 1 (get_or call.rooms.now.links i 0))) e))
+        backs-held (and_left (has_link to i) (not (leb 1 (get_or call.rooms.now.links i 0))) e)
+        (not-true (leb 1 (get_or call.rooms.now.links i 0)) (and_right (has_link to i) (not (leb 1 (get_or call.rooms.now.links i 0))) e))
 
-    pub backs-no : hands_back sender skip call.rooms.now.links s i ≡ false → backs (i + 1) ≡ backs i
+    pub backs-no : hands_back to call.rooms.now.links i ≡ false → backs (i + 1) ≡ backs i
     unfolding hands_back
     backs-no e =
-        cases (is_target sender skip s i)
+        cases (has_link to i)
         (λ t. backs-taken t (not-false (leb 1 (get_or call.rooms.now.links i 0)) (sym (ap (λ (b : Bool). b && not (leb 1 (get_or call.rooms.now.links i 0))) t) ∙ e)))
-        backs-out
+        (backs-out i)
 
-all-below : (p : ℕ) (xs : List ℕ) → all (λ x. ltb x p) xs ≡ true → member p xs ≡ false
+-- what passes a test was there
+member-filter : (f : ℕ → Bool) (p : ℕ) (xs : List ℕ) → member p xs ≡ false → member p (filter f xs) ≡ false
+unfolding member filter
+member-filter f p [] e = refl
+member-filter f p (x ∷ xs) e =
+    cases (eqb p x)
+    (λ y. true≢ (sym (rw y at e)))
+    (λ n. cases (f x) (λ y. rw (y, n) (member-filter f p xs (rw n at e))) (λ y. rw y (member-filter f p xs (rw n at e))))
+
+-- the peer of link i is none of those
+member-apart : (f : ℕ → ℕ) (p i : ℕ) (ls : List ℕ) → ((j : ℕ) → j < i → (f j ≡ p → ⊥)) → All (λ j. j < i) ls → member p (map f ls) ≡ false
 unfolding member
-all-below p [] a = refl
-all-below p (x ∷ xs) a =
-    rw (ne_eqb p x (λ e. omega (arith, ltb-true x p (all_head (λ y. ltb y p) x xs a)))) (all-below p xs (all_tail (λ y. ltb y p) x xs a))
+member-apart f p i [] apart a = refl
+member-apart f p i (l ∷ ls) apart a = rw (ne_eqb p (f l) (λ e. apart l (a 0 0 (omega arith)) (sym e))) (member-apart f p i ls apart (λ k d q. a (suc k) d (omega (arith, q))))
 
-marked_all : (f : ℕ → Bool) (g : Mark → Bool) (l : Links) → all f (keys l) ≡ true → all f (peers_marked g l) ≡ true
-unfolding peers_marked all
-marked_all f g [] a = refl
-marked_all f g (e ∷ l) a =
-    cases (g e.value) (λ t. rw t (all_cons f e.key (peers_marked g l) (all_head f e.key (keys l) a) (marked_all f g l (all_tail f e.key (keys l) a))))
-    (λ t. rw t (marked_all f g l (all_tail f e.key (keys l) a)))
-
-keys-take : {A : Type 0} (i : ℕ) (m : Map A) → keys (take i m) ≡ take i (keys m)
-keys-take zero m = refl
-keys-take (suc i) [] = refl
-keys-take (suc i) (e ∷ m) = ap (λ (l : List ℕ). e.key ∷ l) (keys-take i m)
-
-pub backs-apart : (sender : ℕ) (skip : List ℕ) (call : Call) (s : State) → ascending (keys s.links) ≡ true → (i : ℕ) → i < length s.links → member (peer_at s i) (backs_to sender skip call s i) ≡ false
-unfolding back_peers targets_in eager_peers
-backs-apart sender skip call s up i q =
+pub backs-apart : (to : LinkSet) (call : Call) (s : State) → ascending (keys s.links) ≡ true → (i : ℕ) → i < length s.links → member (peer_at s i) (backs_to to call s i) ≡ false
+unfolding back_peers
+backs-apart to call s up i q =
     let k : length (keys s.links) ≡ length s.links = length-map s.links (λ e. e.key) in
-    let below : all (λ x. ltb x (peer_at s i)) (keys (take i s.links)) ≡ true =
-    at_all (λ x. ltb x (peer_at s i)) 0 (keys (take i s.links))
-    (λ j h.
-    let j-below : j < i = omega (arith, ap length (keys-take i s.links), length-take-le i (keys s.links) (omega arith)) in
-    lt-ltb (get_or (keys (take i s.links)) j 0) (peer_at s i)
-    (subst (λ (x : ℕ). x < peer_at s i) (sym (ap (λ (l : List ℕ). get_or l j 0) (keys-take i s.links) ∙ get_or-take i (keys s.links) j 0 j-below)) ((up_of (keys s.links) up).up j i j-below (omega arith)))) in
-    all-below (peer_at s i) (backs_to sender skip call s i)
-    (all_filter (λ x. ltb x (peer_at s i)) (λ p. not (kth_taken 1 p (rooms_of call s))) (first sender skip s i)
-    (all_filter (λ x. ltb x (peer_at s i)) (passes s.settings.me sender skip) (peers_marked is_eager (take i s.links))
-    (marked_all (λ x. ltb x (peer_at s i)) is_eager (take i s.links) below)))
+    member-filter (λ p. not (kth_taken 1 p (rooms_of call s))) (peer_at s i) (first to s i)
+    (member-apart (peer_at s) (peer_at s i) i (links_below to i) (λ j b. keys-apart (keys s.links) j i (up_of (keys s.links) up) (omega arith) (omega arith) (λ e. omega arith)) (each-below to i))

@@ -1,27 +1,15 @@
 -- The sends of an eager push, link by link.
 -- Assumes nothing.
-use Rattle.std.proofs.Common.{◌≡◌, ℕ, ◌+◌, ◌≤◌, ◌<◌, refl, sym, ap, ◌∙◌, Bool, true, false, not, ◌||◌, List, [], ◌∷◌, ◌++◌, map, length, get_or, append_assoc, leb}
-use Rattle.storage.specs.Lists.Base.{is_empty, concat_map}
-use Rattle.storage.proofs.ListsLaws.ListLaws.{concat-append, concat-one}
+use Rattle.payloads.proofs.Words.{◌≡◌, ℕ, ◌+◌, ◌≤◌, ◌<◌, refl, sym, ap, ◌∙◌, Bool, true, false, not, ◌||◌, List, [], ◌∷◌, ◌++◌, map, length, get_or, append_assoc, leb, is_empty, concat-append, concat-one, Sent, message_bytes, taken_byte, Intake, after, after_append, after_nil, State, announce_action, peer_at, link_at, rooms_of, AtRest, numbered_link, Call, NumberedLink, has_link, AllBelow, LinkSet}
+use Rattle.storage.specs.Lists.Base.{concat_map}
 use Rattle.postcard.specs.Number.{number_bytes}
-use Rattle.postcard.specs.Message.{Sent, message_bytes, action_bytes, taken_byte}
+use Rattle.postcard.specs.Message.{action_bytes}
 use Rattle.postcard.specs.Output.{send_head}
-use Rattle.wire.specs.Encode.Intake.{Intake, after}
-use Rattle.wire.proofs.EncodeLaws.IntakeLaws.{after_append, after_nil}
-use Rattle.protocol.specs.State.{State}
 use Rattle.decide.specs.Rooms.{first_send}
-use Rattle.decide.specs.RecordGrowth.{announce_action, push_actions}
-use Rattle.block.specs.LinkSteps.{peer_at, link_at}
+use Rattle.decide.specs.RecordGrowth.{push_actions}
 use Rattle.wire.specs.declared.encode.message.Gossip.{Gossip}
-use Rattle.steps.specs.Calls.{rooms_of}
-use Rattle.block.specs.Panels.{AtRest}
-use Rattle.block.specs.Views.{numbered_link}
-use Rattle.steps.specs.declared.call.Call.{Call}
-use Rattle.block.specs.declared.links.NumberedLink.{NumberedLink}
-use Rattle.payloads.specs.declared.eager_push.target.Push.{Push}
-use Rattle.payloads.specs.Eager.Targets.{is_target}
 use Rattle.payloads.proofs.EagerLaws.TargetLaws.{Roomed, first, first-none, first-in, first_out, first-all, backs_to, backs-none, backs-held, backs-taken, backs-out, backs-all}
-use Rattle.payloads.specs.EagerPush.Targets.{skipped_peers, push_targets, push_backs}
+use Rattle.payloads.specs.EagerPush.Targets.{link_peers, push_backs}
 use Rattle.payloads.specs.EagerPush.Sends.{gossip_value, sends_bytes, push_bytes}
 use Rattle.payloads.proofs.EagerPushLaws.TargetLaws.{link_peer, rest-roomed}
 
@@ -42,16 +30,13 @@ or-true true = refl
 or-true false = refl
 
 -- a push of a message
-module _ (call : Call) (push : Push) (g : Gossip) (s : State) where
-  abbrev skip : List ℕ
-  skip = skipped_peers push.skip s
-
+module _ (call : Call) (to : LinkSet) (g : Gossip) (s : State) where
   abbrev sends : List ℕ → List ℕ
   sends ps = concat_map action_bytes (map (first_send (rooms_of call s) (gossip_value g)) ps)
 
   -- the sends to those among the first i links
   abbrev pub sends_to : ℕ → List ℕ
-  sends_to i = sends (first push.sender skip s i)
+  sends_to i = sends (first to s i)
 
   sends-append : (ps qs : List ℕ) → sends (ps ++ qs) ≡ sends ps ++ sends qs
   sends-append ps qs =
@@ -60,31 +45,31 @@ module _ (call : Call) (push : Push) (g : Gossip) (s : State) where
 
   pub sends-start : (h : Intake) → h ≡ after (sends_to 0) h
   unfolding concat_map
-  sends-start h = sym (ap (λ (ps : List ℕ). after (sends ps) h) (first-none push.sender skip s) ∙ after_nil h)
+  sends-start h = sym (ap (λ (ps : List ℕ). after (sends ps) h) (first-none to s) ∙ after_nil h)
 
-  pub sends-done : (i : ℕ) → length s.links ≤ i → (h now : Intake) → now ≡ after (sends_to i) h → now ≡ after (sends_bytes call push g s) h
-  sends-done i q h now a = a ∙ ap (λ (ps : List ℕ). after (sends ps) h) (first-all push.sender skip s i q)
+  pub sends-done : (i : ℕ) → i ≡ length s.links → length s.links ≤ 32 → AllBelow to (length s.links) → (h now : Intake) → now ≡ after (sends_to i) h → now ≡ after (sends_bytes call to g s) h
+  sends-done i e q b h now a = a ∙ ap (λ (ps : List ℕ). after (sends ps) h) (first-all to s i e q b)
 
   module _ (i : ℕ) (q : i < length s.links) where
-    pub sends-skip : (b : Bool) → b ≡ is_target push.sender skip s i → b ≡ false → (h now : Intake) → now ≡ after (sends_to i) h → now ≡ after (sends_to (i + 1)) h
-    sends-skip b k t h now a = a ∙ ap (λ (ps : List ℕ). after (sends ps) h) (sym (first_out push.sender skip s i q (sym k ∙ t)))
+    pub sends-skip : (b : Bool) → b ≡ has_link to i → b ≡ false → (h now : Intake) → now ≡ after (sends_to i) h → now ≡ after (sends_to (i + 1)) h
+    sends-skip b k t h now a = a ∙ ap (λ (ps : List ℕ). after (sends ps) h) (sym (first_out to s i (sym k ∙ t)))
 
-    module _ (rest' : AtRest s) (b : Bool) (k : b ≡ is_target push.sender skip s i) (t : b ≡ true) (to : NumberedLink) (et : to ≡ numbered_link i (link_at s i)) (taken : Bool) (er : taken ≡ leb 1 (get_or call.rooms.now.links i 0)) where
-      same-send : first_send (rooms_of call s) (gossip_value g) (peer_at s i) ≡ Sent to.peer taken (gossip_value g)
+    module _ (rest' : AtRest s) (b : Bool) (k : b ≡ has_link to i) (t : b ≡ true) (at : NumberedLink) (et : at ≡ numbered_link i (link_at s i)) (taken : Bool) (er : taken ≡ leb 1 (get_or call.rooms.now.links i 0)) where
+      same-send : first_send (rooms_of call s) (gossip_value g) (peer_at s i) ≡ Sent at.peer taken (gossip_value g)
       unfolding first_send
       same-send = λ j. Sent ((link_peer s i q ∙ sym (ap (λ (l : NumberedLink). l.peer) et)) j) (((rest-roomed s call rest').first i q ∙ sym er) j) (gossip_value g)
 
       abbrev sent : List ℕ
-      sent = send_head to.peer taken ++ message_bytes (gossip_value g)
+      sent = send_head at.peer taken ++ message_bytes (gossip_value g)
 
-      one : action_bytes (Sent to.peer taken (gossip_value g)) ≡ sent
+      one : action_bytes (Sent at.peer taken (gossip_value g)) ≡ sent
       unfolding action_bytes send_head
-      one = sym (append_assoc (1 ∷ number_bytes to.peer) (taken_byte taken ∷ []) (message_bytes (gossip_value g)))
+      one = sym (append_assoc (1 ∷ number_bytes at.peer) (taken_byte taken ∷ []) (message_bytes (gossip_value g)))
 
       more : sends_to (i + 1) ≡ sends_to i ++ sent
       more =
-          ap sends (first-in push.sender skip s i q (sym k ∙ t))
-          ∙ sends-append (first push.sender skip s i) (peer_at s i ∷ [])
+          ap sends (first-in to s i (sym k ∙ t))
+          ∙ sends-append (first to s i) (peer_at s i ∷ [])
           ∙ ap (λ (l : List ℕ). sends_to i ++ l) (concat-one action_bytes (first_send (rooms_of call s) (gossip_value g) (peer_at s i)) ∙ ap action_bytes same-send ∙ one)
 
       pub sends-more : (h now next : Intake) → now ≡ after (sends_to i) h → next ≡ after sent now → next ≡ after (sends_to (i + 1)) h
@@ -92,30 +77,30 @@ module _ (call : Call) (push : Push) (g : Gossip) (s : State) where
 
   -- whether any of them was handed back
   abbrev pub any_back : ℕ → Bool
-  any_back i = not (is_empty (backs_to push.sender skip call s i))
+  any_back i = not (is_empty (backs_to to call s i))
 
   pub back-start : false ≡ any_back 0
-  back-start = sym (ap (λ (ps : List ℕ). not (is_empty ps)) (backs-none push.sender skip call s))
+  back-start = sym (ap (λ (ps : List ℕ). not (is_empty ps)) (backs-none to call s))
 
-  pub back-done : (i : ℕ) → length s.links ≤ i → (b : Bool) → b ≡ any_back i → b ≡ not (is_empty (push_backs call push s))
-  back-done i q b e = e ∙ ap (λ (ps : List ℕ). not (is_empty ps)) (backs-all push.sender skip call s i q)
+  pub back-done : (i : ℕ) → i ≡ length s.links → length s.links ≤ 32 → AllBelow to (length s.links) → (b : Bool) → b ≡ any_back i → b ≡ not (is_empty (push_backs call to s))
+  back-done i e q a b f = f ∙ ap (λ (ps : List ℕ). not (is_empty ps)) (backs-all to call s i e q a)
 
   module _ (rest' : AtRest s) (i : ℕ) (q : i < length s.links) where
     roomed : Roomed s call
     roomed = rest-roomed s call rest'
 
-    pub back-skip : (found : Bool) → found ≡ is_target push.sender skip s i → found ≡ false → (b : Bool) → b ≡ any_back i → b ≡ any_back (i + 1)
-    back-skip found e t b k = k ∙ ap (λ (ps : List ℕ). not (is_empty ps)) (sym (backs-out push.sender skip call s roomed i q (sym e ∙ t)))
+    pub back-skip : (found : Bool) → found ≡ has_link to i → found ≡ false → (b : Bool) → b ≡ any_back i → b ≡ any_back (i + 1)
+    back-skip found e t b k = k ∙ ap (λ (ps : List ℕ). not (is_empty ps)) (sym (backs-out to call s i (sym e ∙ t)))
 
-    pub back-more : (found : Bool) → found ≡ is_target push.sender skip s i → found ≡ true → (taken : Bool) → taken ≡ leb 1 (get_or call.rooms.now.links i 0) → (b : Bool) → b ≡ any_back i → (b || not taken) ≡ any_back (i + 1)
-    back-more found e y true t b k = or-false b ∙ k ∙ ap (λ (ps : List ℕ). not (is_empty ps)) (sym (backs-taken push.sender skip call s roomed i q (sym e ∙ y) (sym t)))
+    pub back-more : (found : Bool) → found ≡ has_link to i → found ≡ true → (taken : Bool) → taken ≡ leb 1 (get_or call.rooms.now.links i 0) → (b : Bool) → b ≡ any_back i → (b || not taken) ≡ any_back (i + 1)
+    back-more found e y true t b k = or-false b ∙ k ∙ ap (λ (ps : List ℕ). not (is_empty ps)) (sym (backs-taken to call s roomed i q (sym e ∙ y) (sym t)))
     back-more found e y false t b k =
-        or-true b ∙ sym (ap (λ (ps : List ℕ). not (is_empty ps)) (backs-held push.sender skip call s roomed i q (sym e ∙ y) (sym t)) ∙ ap not (filled (backs_to push.sender skip call s i) (peer_at s i)))
+        or-true b ∙ sym (ap (λ (ps : List ℕ). not (is_empty ps)) (backs-held to call s roomed i q (sym e ∙ y) (sym t)) ∙ ap not (filled (backs_to to call s i) (peer_at s i)))
 
 -- the record's timer behind the sends
-pub push-parts : (call : Call) (push : Push) (g : Gossip) (s : State) (back flag : Bool) → back ≡ not (is_empty (push_backs call push s)) → flag ≡ s.timers.announce
-    → push_bytes call push g s ≡ sends_bytes call push g s ++ concat_map action_bytes (announce_action back flag)
+pub push-parts : (call : Call) (to : LinkSet) (g : Gossip) (s : State) (back flag : Bool) → back ≡ not (is_empty (push_backs call to s)) → flag ≡ s.timers.announce
+    → push_bytes call to g s ≡ sends_bytes call to g s ++ concat_map action_bytes (announce_action back flag)
 unfolding push_actions
-push-parts call push g s back flag e f =
-    concat-append action_bytes (map (first_send (rooms_of call s) (gossip_value g)) (push_targets push s)) (announce_action (not (is_empty (push_backs call push s))) s.timers.announce)
-    ∙ sym (λ k. sends_bytes call push g s ++ concat_map action_bytes (announce_action (e k) (f k)))
+push-parts call to g s back flag e f =
+    concat-append action_bytes (map (first_send (rooms_of call s) (gossip_value g)) (link_peers to s)) (announce_action (not (is_empty (push_backs call to s))) s.timers.announce)
+    ∙ sym (λ k. sends_bytes call to g s ++ concat_map action_bytes (announce_action (e k) (f k)))

@@ -1,20 +1,9 @@
 -- The links and the link room, as an eager push reads them.
 -- Assumes nothing.
-use Rattle.std.proofs.Common.{◌≡◌, ℕ, ◌≤◌, ◌<◌, List, length, arith}
-use lib.ListN.{get_or-map}
-use Rattle.storage.specs.Lists.Map.{Map, Entry, entry, keys, has}
-use Rattle.storage.specs.Lists.Base.{member}
-use Rattle.protocol.specs.Links.{Mark, eager}
-use Rattle.protocol.specs.State.{State}
-use Rattle.block.specs.LinkSteps.{peer_at, link_at}
-use Rattle.block.specs.View.{state_of}
+use Rattle.payloads.proofs.Words.{◌≡◌, ℕ, ◌≤◌, ◌<◌, List, length, arith, get_or-map, Map, Entry, entry, keys, has, member, Mark, eager, State, peer_at, link_at, state_of, Head, AtRest, links-few, Call}
 use Rattle.block.specs.Sound.{Sound}
-use Rattle.block.specs.declared.head.Head.{Head}
-use Rattle.block.specs.Panels.{AtRest}
 use Rattle.payloads.proofs.EagerLaws.TargetLaws.{Roomed}
 use Rattle.steps.proofs.RoomsLaws.{kth-link, has-member}
-use Rattle.block.proofs.ViewLaws.{links-few}
-use Rattle.steps.specs.declared.call.Call.{Call}
 
 pub few_links : (h : Head) (xs : List ℕ) → Sound h xs → length (state_of h xs).links ≤ 32
 few_links h xs sound = links-few h xs sound

@@ -1,61 +1,21 @@
 -- The numbers of entries after a new Swarm message.
 -- Assumes nothing.
-use Rattle.std.proofs.Common.{◌≡◌, refl, sym, ap, ◌∙◌, Bool, true, false, not, ◌&&◌, ℕ, suc, ◌+◌, ◌-◌, ◌≤◌, arith, length, List, [], ◌∷◌, ◌++◌, ◌==◌, count_by, Option, Some, None, eqb}
+use Rattle.payloads.proofs.Words.{◌≡◌, refl, sym, ap, ◌∙◌, Bool, true, false, not, ◌&&◌, ℕ, suc, ◌+◌, ◌-◌, ◌≤◌, arith, length, List, [], ◌∷◌, ◌++◌, ◌==◌, count_by, eqb, filter, sum, Map, has, id_of, Cache, lazy_peers, State, Cached, zero_counts, Run, begin, note_for, settled, Sizes, state_of, Head, rooms_of, AtRest, sizes_value, links_from, Call, settled-as, same_dropped, links_of}
 use mir.Val.{bool_byte}
-use Rattle.storage.specs.Lists.Base.{member, filter, sum}
-use Rattle.storage.specs.Lists.Map.{Map, keys, has, lookup}
-use Rattle.storage.proofs.ListsLaws.MapLaws.{true≢, lookup-insert-same}
-use Rattle.storage.specs.Rows.Ident.{id_of}
-use Rattle.time_cache.specs.TimeCache.{Timed, Cache, get, value_of, replace, with_value}
-use Rattle.protocol.specs.Links.{lazy_peers, eager_peers}
-use Rattle.protocol.specs.State.{State, Note, Hop, Grafts, Cached, zero_counts}
-use Rattle.protocol.specs.Run.{Run, begin}
-use Rattle.protocol.specs.Push.{eager_targets, note_for}
-use Rattle.protocol.specs.Gossips.{peers_of, grafted_for, with_first}
+use Rattle.storage.specs.Lists.Base.{member}
+use Rattle.storage.specs.Lists.Map.{lookup}
 use Rattle.protocol.specs.Whole.{content_held}
-use Rattle.decide.specs.Rooms.{back_peers}
-use Rattle.decide.specs.RecordGrowth.{cached_in, batches_for, add_batches}
-use Rattle.decide.specs.Settled.{settled}
-use Rattle.decide.specs.Sizes.{Sizes, sizes_of, shrunk}
+use Rattle.decide.specs.Sizes.{sizes_of, shrunk}
 use Rattle.decide.proofs.SizesAfter.{taken_sizes, new_sizes}
-use Rattle.decide.specs.StateAfter.{taken_state, first_set_state, pushed_on_state, pushed_state, recorded_state, lazy_state}
+use Rattle.decide.specs.StateAfter.{taken_state, pushed_on_state, pushed_state, recorded_state, lazy_state}
 use Rattle.decide.proofs.Gossip.{new-sizes}
 use Rattle.decide.proofs.StateLaws.{new-state}
-use Rattle.block.specs.View.{state_of}
-use Rattle.block.specs.declared.head.Head.{Head}
-use Rattle.steps.specs.Calls.{rooms_of}
-use Rattle.block.specs.Panels.{AtRest}
-use Rattle.steps.specs.Record.{with_these}
-use Rattle.steps.specs.Settled.Then.{no_grafts}
-use Rattle.steps.specs.Shared.{EntryIs, sizes_value}
-use Rattle.block.specs.Views.{links_from}
 use Rattle.steps.specs.declared.Sizes.{Sizes as CodeSizes}
-use Rattle.steps.specs.declared.call.Call.{Call}
-use Rattle.steps.proofs.AtRestLaws.{settled-as}
 use Rattle.steps.proofs.TakeInLaws.{settled-rest, byte-small}
-use Rattle.payloads.specs.OnGossip.{after_gossip}
-use Rattle.payloads.specs.EagerPush.Targets.{skipped_peers}
-use Rattle.payloads.specs.EagerPush.Notes.{record_back}
-use Rattle.payloads.specs.declared.eager_push.target.Push.{Push}
+use Rattle.payloads.specs.OnGossip.{Decided, after_gossip}
 use Rattle.payloads.specs.declared.on_gossip.NewMessage.{NewMessage}
-use Rattle.payloads.proofs.EagerPushLaws.NoteLaws.{these-length}
-use Rattle.payloads.proofs.OnGossipLaws.{skip-found}
-use Rattle.payloads.proofs.PushedLaws.{settled-record, taken-recorded, taken-queued}
-use Rattle.payloads.proofs.GossipStateLaws.StageLaws.{taken, first_set, pushed_on, queued, end, end-new, end-received, end-cache, end-queue, end-record, first-links, first-me, first-queue, first-record, first-cached}
-
--- `first` leaves the peers
-get-replaced : (id : ℕ) (v g : Grafts) (c : Cache Grafts) → get id c ≡ Some g → get id (replace id v c) ≡ Some v
-unfolding get replace
-get-replaced id v g c e = on (lookup id c.entries) e
-  where
-    on : (o : Option (Timed Grafts)) → value_of o ≡ Some g → value_of (lookup id (with_value id v o c.entries)) ≡ Some v
-    on None q = let z : false ≡ true = unfold value_of in (cc) in true≢ z
-    on (Some t) q = unfold with_value in (unfold value_of in (rw (lookup-insert-same id (record { expires = t.expires; value = v }) c.entries) refl))
-
-first-peers : (id : ℕ) (h : Hop) (o : Option Grafts) (s : State) → get id s.grafted ≡ o → grafted_for id (with_first id h o s) ≡ grafted_for id s
-unfolding with_first grafted_for peers_of
-first-peers id h None s e = refl
-first-peers id h (Some g) s e = rw (get-replaced id (record { first = Some h; kept = g.kept; peers = g.peers }) g s.grafted e, e) refl
+use Rattle.payloads.proofs.PushedLaws.{taken-recorded, taken-queued}
+use Rattle.payloads.proofs.GossipStateLaws.StageLaws.{taken, queued, end, end-new, end-received, end-cache, end-queue, end-record, first-links, first-queue, pushed-long}
 
 -- the numbers with other numbers of missing messages, graft timers, queued and recorded entries
 abbrev pub gossip_numbers : CodeSizes → ℕ → ℕ → ℕ → ℕ → CodeSizes
@@ -115,130 +75,96 @@ module _ (call : Call) (m : NewMessage) (h : Head) (xs : List ℕ) (rest : AtRes
   end-last : end call m next t ≡ last
   end-last = end-new call m next t refl
 
-  -- the record
-  abbrev pub held_then : ℕ → Bool
-  held_then = cached_in (first_set call m next t).cache
+  module _ (z : CodeSizes) (e : sizes_value z ≡ sizes_of (taken call m next t))
+      (count : ℕ) (c : count ≡ count_by (λ l. not l.eager && not (l.peer == m.sender)) (links_from 0 shown.links))
+      (d : Decided call m.sender id m.round.0 t m.decision)
+      (missing : Bool) (mi : missing ≡ has id shown.missing) (timer : Bool) (ti : timer ≡ member id shown.timers.graft) where
+    lazy-same : (lazy_state id next m.sender (taken call m next t)).queue ≡ (queued call m next t).queue
+    unfolding lazy_state pushed_on_state pushed_state recorded_state taken_state
+    lazy-same = λ p. sym (first-queue call m next t) p ++ note_for (filter (λ q. not (eqb q m.sender)) (lazy_peers (sym (first-links call m next t) p))) id next
 
-  pub held-id : held_then id ≡ true
-  held-id = first-cached call m next t
+    queue-is : z.queued + count ≡ length last.queue
+    queue-is =
+        taken-queued call.instant.0 id m.content.now next h xs z e m.sender count c
+        ∙ ap length lazy-same ∙ sym (ap length (end-queue call m next t)) ∙ ap (λ (s : State). length s.queue) end-last
 
-  abbrev noted_by : List ℕ → State → List Note
-  noted_by skip s = add_batches held_then (batches_for (record { id = id; round = next }) (back_peers (rooms_of call s) (eager_targets m.sender skip s))) s.dropped
+    dropped-is : z.dropped + length (links_of m.decision.push.noted) ≡ length last.dropped
+    dropped-is =
+        omega (
+          arith,
+          taken-recorded call.instant.0 id m.content.now next h xs z e,
+          ap length (same_dropped call.instant.0 shown),
+          pushed-long call m next t d,
+          ap length (end-record call m next t),
+          ap (λ (s : State). length s.dropped) end-last,
+        )
 
-  peers-still : grafted_for id (first_set call m next t) ≡ grafted_for id t
-  unfolding first_set_state taken_state grafted_for
-  peers-still = first-peers id (record { peer = m.sender; round = m.round.0 }) (get id t.grafted) (taken call m next t) refl
+    settled-has : has id t.missing ≡ has id shown.missing
+    settled-has = settled-as call.instant.0 shown (λ (s : State). has id s.missing) refl
 
-  targets-still : (skip : List ℕ) → eager_targets m.sender skip (first_set call m next t) ≡ eager_targets m.sender skip t
-  unfolding eager_targets
-  targets-still skip = λ p. filter (λ q. not (eqb q (first-me call m next t p)) && not (eqb q m.sender) && not (member q skip)) (eager_peers (first-links call m next t p))
+    settled-member : member id t.timers.graft ≡ member id shown.timers.graft
+    settled-member = settled-as call.instant.0 shown (λ (s : State). member id s.timers.graft) refl
 
-  pushed-record : (pushed_on call m next t).dropped
-      ≡ add_batches held_then (batches_for (record { id = id; round = next }) (back_peers (rooms_of call t) (eager_targets m.sender (keys (grafted_for id (first_set call m next t))) (first_set call m next t)))) (first_set call m next t).dropped
-  unfolding pushed_on_state pushed_state recorded_state
-  pushed-record = refl
+    missing-is : z.missing - bool_byte missing ≡ length last.missing
+    unfolding sizes_of taken_state new_sizes taken_sizes
+    missing-is =
+        ap (λ k. k - bool_byte missing) (ap (λ (y : Sizes). y.missing) e)
+        ∙ shrunk-by missing (length t.missing)
+        ∙ ap (λ b. shrunk b (length t.missing)) (mi ∙ sym settled-has)
+        ∙ sym (ap (λ (y : Sizes). y.missing) numbers)
 
-  -- the entry that was found before the call
-  module _ (k : Option ℕ) (found : EntryIs no_grafts shown.grafted.entries id (get id t.grafted) k) where
-    abbrev push : Push
-    push = record { sender = m.sender; skip = k }
+    timers-are : z.timers - bool_byte timer ≡ length last.timers.graft
+    unfolding sizes_of taken_state new_sizes taken_sizes
+    timers-are =
+        ap (λ k. k - bool_byte timer) (ap (λ (y : Sizes). y.timers) e)
+        ∙ shrunk-by timer (length t.timers.graft)
+        ∙ ap (λ b. shrunk b (length t.timers.graft)) (ti ∙ sym settled-member)
+        ∙ sym (ap (λ (y : Sizes). y.timers) numbers)
 
-    skips : skipped_peers k shown ≡ keys (grafted_for id t)
-    unfolding grafted_for
-    skips = skip-found shown id (get id t.grafted) k found
+    received-is : last.received ≡ (taken call m next t).received
+    received-is = ap (λ (s : State). s.received) (sym end-last) ∙ end-received call m next t
 
-    record-is : last.dropped ≡ record_back held_then call push id next shown
-    record-is =
-        ap (λ (s : State). s.dropped) (sym end-last)
-        ∙ end-record call m next t
-        ∙ pushed-record
-        ∙ (λ p. add_batches held_then (batches_for (record { id = id; round = next }) (back_peers (rooms_of call t) ((ap (λ g. eager_targets m.sender (keys g) (first_set call m next t)) peers-still ∙ targets-still (keys (grafted_for id t))) p)))
-        (first-record call m next t p))
-        ∙ settled-record held_then call id next m.sender (keys (grafted_for id t)) call.instant.0 shown
-        ∙ ap (λ (skip : List ℕ). noted_by skip shown) (sym skips)
+    cache-is : last.cache ≡ (taken call m next t).cache
+    cache-is = ap (λ (s : State). s.cache) (sym end-last) ∙ end-cache call m next t
 
-    module _ (z : CodeSizes) (e : sizes_value z ≡ sizes_of (taken call m next t))
-        (count : ℕ) (c : count ≡ count_by (λ l. not l.eager && not (l.peer == m.sender)) (links_from 0 shown.links))
-        (ls : List ℕ) (n : record_back held_then call push id next shown ≡ with_these ls id next shown)
-        (missing : Bool) (mi : missing ≡ has id shown.missing) (timer : Bool) (ti : timer ≡ member id shown.timers.graft) where
-      lazy-same : (lazy_state id next m.sender (taken call m next t)).queue ≡ (queued call m next t).queue
-      unfolding lazy_state pushed_on_state pushed_state recorded_state taken_state
-      lazy-same = λ p. sym (first-queue call m next t) p ++ note_for (filter (λ q. not (eqb q m.sender)) (lazy_peers (sym (first-links call m next t) p))) id next
+    links-are : z.links ≡ length last.links
+    unfolding sizes_of taken_state new_sizes taken_sizes
+    links-are = ap (λ (y : Sizes). y.links) e ∙ sym (ap (λ (y : Sizes). y.links) numbers)
 
-      queue-is : z.queued + count ≡ length last.queue
-      queue-is =
-          taken-queued call.instant.0 id m.content.now next h xs z e m.sender count c
-          ∙ ap length lazy-same ∙ sym (ap length (end-queue call m next t)) ∙ ap (λ (s : State). length s.queue) end-last
+    grafted-are : z.grafted ≡ length last.grafted.entries
+    unfolding sizes_of taken_state new_sizes taken_sizes
+    grafted-are = ap (λ (y : Sizes). y.grafted) e ∙ sym (ap (λ (y : Sizes). y.grafted) numbers)
 
-      dropped-is : z.dropped + length ls ≡ length last.dropped
-      dropped-is = omega (arith, taken-recorded call.instant.0 id m.content.now next h xs z e, ap length record-is, ap length n, these-length ls id next shown)
+    rows-are : z.grafted_rows ≡ length last.grafted.expiry
+    unfolding sizes_of taken_state new_sizes taken_sizes
+    rows-are = ap (λ (y : Sizes). y.grafted_expiry) e ∙ sym (ap (λ (y : Sizes). y.grafted_expiry) numbers)
 
-      settled-has : has id t.missing ≡ has id shown.missing
-      settled-has = settled-as call.instant.0 shown (λ (s : State). has id s.missing) refl
+    pub sizes-are : sizes_value (gossip_numbers z (z.missing - bool_byte missing) (z.timers - bool_byte timer) (z.queued + count) (z.dropped + length (links_of m.decision.push.noted))) ≡ sizes_of last
+    unfolding sizes_of content_held
+    sizes-are = λ p. record {
+      links = links-are p;
+      received = (ap (λ (y : Sizes). y.received) e ∙ sym (ap (λ (k : Cache (Unit {0})). length k.entries) received-is)) p;
+      received_expiry = (ap (λ (y : Sizes). y.received_expiry) e ∙ sym (ap (λ (k : Cache (Unit {0})). length k.expiry) received-is)) p;
+      cached = (ap (λ (y : Sizes). y.cached) e ∙ sym (ap (λ (k : Cache Cached). length k.entries) cache-is)) p;
+      cached_expiry = (ap (λ (y : Sizes). y.cached_expiry) e ∙ sym (ap (λ (k : Cache Cached). length k.expiry) cache-is)) p;
+      content = (ap (λ (y : Sizes). y.content) e ∙ sym (ap (λ (k : Cache Cached). sum (λ x. length x.value.value.content) k.entries) cache-is)) p;
+      grafted = grafted-are p;
+      grafted_expiry = rows-are p;
+      missing = missing-is p;
+      timers = timers-are p;
+      queued = queue-is p;
+      recorded = dropped-is p;
+    }
 
-      settled-member : member id t.timers.graft ≡ member id shown.timers.graft
-      settled-member = settled-as call.instant.0 shown (λ (s : State). member id s.timers.graft) refl
+  -- what is not there is not taken away
+  pub missing-fewer : (z : CodeSizes) → sizes_value z ≡ sizes_of (taken call m next t) → (b : Bool) → b ≡ has id shown.missing → bool_byte b ≤ z.missing
+  unfolding sizes_of taken_state
+  missing-fewer z e b f =
+      let g : b ≡ has id t.missing = f ∙ sym (settled-as call.instant.0 shown (λ (s : State). has id s.missing) refl) in
+      omega (arith, ap (λ (y : Sizes). y.missing) e, has-fewer id t.missing b g)
 
-      missing-is : z.missing - bool_byte missing ≡ length last.missing
-      unfolding sizes_of taken_state new_sizes taken_sizes
-      missing-is =
-          ap (λ k. k - bool_byte missing) (ap (λ (y : Sizes). y.missing) e)
-          ∙ shrunk-by missing (length t.missing)
-          ∙ ap (λ b. shrunk b (length t.missing)) (mi ∙ sym settled-has)
-          ∙ sym (ap (λ (y : Sizes). y.missing) numbers)
-
-      timers-are : z.timers - bool_byte timer ≡ length last.timers.graft
-      unfolding sizes_of taken_state new_sizes taken_sizes
-      timers-are =
-          ap (λ k. k - bool_byte timer) (ap (λ (y : Sizes). y.timers) e)
-          ∙ shrunk-by timer (length t.timers.graft)
-          ∙ ap (λ b. shrunk b (length t.timers.graft)) (ti ∙ sym settled-member)
-          ∙ sym (ap (λ (y : Sizes). y.timers) numbers)
-
-      received-is : last.received ≡ (taken call m next t).received
-      received-is = ap (λ (s : State). s.received) (sym end-last) ∙ end-received call m next t
-
-      cache-is : last.cache ≡ (taken call m next t).cache
-      cache-is = ap (λ (s : State). s.cache) (sym end-last) ∙ end-cache call m next t
-
-      links-are : z.links ≡ length last.links
-      unfolding sizes_of taken_state new_sizes taken_sizes
-      links-are = ap (λ (y : Sizes). y.links) e ∙ sym (ap (λ (y : Sizes). y.links) numbers)
-
-      grafted-are : z.grafted ≡ length last.grafted.entries
-      unfolding sizes_of taken_state new_sizes taken_sizes
-      grafted-are = ap (λ (y : Sizes). y.grafted) e ∙ sym (ap (λ (y : Sizes). y.grafted) numbers)
-
-      rows-are : z.grafted_rows ≡ length last.grafted.expiry
-      unfolding sizes_of taken_state new_sizes taken_sizes
-      rows-are = ap (λ (y : Sizes). y.grafted_expiry) e ∙ sym (ap (λ (y : Sizes). y.grafted_expiry) numbers)
-
-      pub sizes-are : sizes_value (gossip_numbers z (z.missing - bool_byte missing) (z.timers - bool_byte timer) (z.queued + count) (z.dropped + length ls)) ≡ sizes_of last
-      unfolding sizes_of content_held
-      sizes-are = λ p. record {
-        links = links-are p;
-        received = (ap (λ (y : Sizes). y.received) e ∙ sym (ap (λ (k : Cache (Unit {0})). length k.entries) received-is)) p;
-        received_expiry = (ap (λ (y : Sizes). y.received_expiry) e ∙ sym (ap (λ (k : Cache (Unit {0})). length k.expiry) received-is)) p;
-        cached = (ap (λ (y : Sizes). y.cached) e ∙ sym (ap (λ (k : Cache Cached). length k.entries) cache-is)) p;
-        cached_expiry = (ap (λ (y : Sizes). y.cached_expiry) e ∙ sym (ap (λ (k : Cache Cached). length k.expiry) cache-is)) p;
-        content = (ap (λ (y : Sizes). y.content) e ∙ sym (ap (λ (k : Cache Cached). sum (λ x. length x.value.value.content) k.entries) cache-is)) p;
-        grafted = grafted-are p;
-        grafted_expiry = rows-are p;
-        missing = missing-is p;
-        timers = timers-are p;
-        queued = queue-is p;
-        recorded = dropped-is p;
-      }
-
-    -- what is not there is not taken away
-    pub missing-fewer : (z : CodeSizes) → sizes_value z ≡ sizes_of (taken call m next t) → (b : Bool) → b ≡ has id shown.missing → bool_byte b ≤ z.missing
-    unfolding sizes_of taken_state
-    missing-fewer z e b f =
-        let g : b ≡ has id t.missing = f ∙ sym (settled-as call.instant.0 shown (λ (s : State). has id s.missing) refl) in
-        omega (arith, ap (λ (y : Sizes). y.missing) e, has-fewer id t.missing b g)
-
-    pub timers-fewer : (z : CodeSizes) → sizes_value z ≡ sizes_of (taken call m next t) → (b : Bool) → b ≡ member id shown.timers.graft → bool_byte b ≤ z.timers
-    unfolding sizes_of taken_state
-    timers-fewer z e b f =
-        let g : b ≡ member id t.timers.graft = f ∙ sym (settled-as call.instant.0 shown (λ (s : State). member id s.timers.graft) refl) in
-        omega (arith, ap (λ (y : Sizes). y.timers) e, member-fewer id t.timers.graft b g)
+  pub timers-fewer : (z : CodeSizes) → sizes_value z ≡ sizes_of (taken call m next t) → (b : Bool) → b ≡ member id shown.timers.graft → bool_byte b ≤ z.timers
+  unfolding sizes_of taken_state
+  timers-fewer z e b f =
+      let g : b ≡ member id t.timers.graft = f ∙ sym (settled-as call.instant.0 shown (λ (s : State). member id s.timers.graft) refl) in
+      omega (arith, ap (λ (y : Sizes). y.timers) e, member-fewer id t.timers.graft b g)

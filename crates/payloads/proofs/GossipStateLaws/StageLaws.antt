@@ -1,34 +1,22 @@
 -- What each step of a new Swarm message leaves and asks, and that together they are the whole.
 -- Assumes nothing.
-use Rattle.std.proofs.Common.{◌≡◌, refl, sym, ap, ◌∙◌, Bool, true, false, not, ◌&&◌, ℕ, suc, ◌≤◌, ◌^◌, arith, length, List, [], ◌∷◌, if◌then◌else◌, Option, Some, None}
+use Rattle.payloads.proofs.Words.{◌≡◌, refl, sym, ap, ◌∙◌, Bool, true, false, not, ◌&&◌, ℕ, suc, ◌+◌, ◌≤◌, ◌^◌, arith, length, List, [], ◌∷◌, if◌then◌else◌, Option, Some, None, Map, keys, lookup, true≢, lookup-insert-same, id_of, Timed, Cache, holds, Links, is_neighbour, State, Settings, Limits, Hop, Grafts, Cached, with_links, announcers, graft_out, least_from, far_closer, fits, cached_in, optimised_links, rooms_of, AtRest, Allowed, Call, links_of, AllBelow, these_noted, LinkSet}
 use Rattle.std.proofs.Math.Path.{subst}
-use Rattle.storage.specs.Lists.Map.{keys}
-use Rattle.storage.specs.Rows.Ident.{id_of}
-use Rattle.time_cache.specs.TimeCache.{get, holds, Cache}
-use Rattle.protocol.specs.Links.{Links, is_neighbour}
-use Rattle.protocol.specs.State.{State, Limits, Hop, Grafts, Cached, with_links}
-use Rattle.protocol.specs.Push.{eager_targets}
-use Rattle.protocol.specs.Gossips.{announcers, grafted_for, graft_out, with_first, least_from, far_closer}
-use Rattle.protocol.specs.Whole.{fits}
-use Rattle.decide.specs.Settled.{settled}
-use Rattle.decide.specs.StateAfter.{recorded_state, pushed_state, pushed_on_state, lazy_state, taken_state, first_set_state, forgotten_state, optimised_links, optimised_state, closed_state, new_state}
+use Rattle.time_cache.specs.TimeCache.{get, replace, value_of, with_value}
+use Rattle.protocol.specs.Gossips.{peers_of, grafted_for, with_first}
+use Rattle.decide.specs.StateAfter.{recorded_state, pushed_state, pushed_on_state, lazy_state, taken_state, first_set_state, forgotten_state, optimised_state, closed_state, new_state}
 use Rattle.decide.proofs.Broadcast.{holds-put}
-use Rattle.steps.specs.Calls.{rooms_of}
 use Rattle.steps.specs.Rooms.{rooms_in}
-use Rattle.block.specs.Panels.{AtRest, Allowed}
-use Rattle.steps.specs.Settled.Then.{no_grafts}
-use Rattle.steps.specs.Shared.{EntryIs}
 use Rattle.steps.specs.TakeIn.{Takes}
-use Rattle.steps.specs.declared.call.Call.{Call}
-use Rattle.steps.proofs.SettledLaws.ThenLaws.{settled-still}
 use Rattle.steps.proofs.TakeInLaws.{takes-later, taken-rest, rest-kept, kept-rest}
-use Rattle.payloads.specs.OnGossip.{after_gossip}
-use Rattle.payloads.specs.EagerPush.Targets.{skipped_peers}
-use Rattle.payloads.specs.EagerPush.Notes.{back_state, NotesBack}
-use Rattle.payloads.specs.declared.eager_push.target.Push.{Push}
+use Rattle.payloads.specs.OnGossip.{Decided, after_gossip}
+use Rattle.payloads.specs.EagerPush.Decided.{PushIs}
+use Rattle.payloads.specs.OptimizeTree.{shortcut, ShortcutOf, ShortcutHeld, finished_state}
 use Rattle.payloads.specs.declared.on_gossip.NewMessage.{NewMessage}
 use Rattle.payloads.proofs.NewGossipLaws.KeptLaws.{kept-first-set, kept-pushed-on, kept-lazy}
-use Rattle.payloads.proofs.OnGossipLaws.{skip-there, skip-found}
+use Rattle.payloads.proofs.EagerPushLaws.NoteLaws.{noted-back, these-length}
+use Rattle.payloads.proofs.EagerPushLaws.SameLaws.{push-same}
+use Rattle.payloads.proofs.OptimizeTreeLaws.{shortcut-same, decided-held, finished}
 use Rattle.payloads.proofs.PushedLaws.{queue-within, record-within}
 
 -- the limits, the message caches, the queue, the record and the flag of the first event are left
@@ -69,20 +57,37 @@ rest-closed id sender round s =
     rest-if (is_neighbour sender s.links && not (graft_out sender round (grafted_for id s)))
     (rest_then (rest-forgotten id s) (rest-tree sender (suc round) (announcers id s) (forgotten_state id s))) (rest-forgotten id s)
 
+-- `first` leaves the peers
+get-replaced : (id : ℕ) (v g : Grafts) (c : Cache Grafts) → get id c ≡ Some g → get id (replace id v c) ≡ Some v
+unfolding get replace
+get-replaced id v g c e = on (lookup id c.entries) e
+  where
+    on : (o : Option (Timed Grafts)) → value_of o ≡ Some g → value_of (lookup id (with_value id v o c.entries)) ≡ Some v
+    on None q = let z : false ≡ true = unfold value_of in (cc) in true≢ z
+    on (Some t) q = unfold with_value in (unfold value_of in (rw (lookup-insert-same id (record { expires = t.expires; value = v }) c.entries) refl))
+
 -- `first` changes the grafted messages alone, and no peer of them
 pub record FirstRest (id : ℕ) (s t : State) : Type 0 where
   pub rest : Rest s t
   pub links : t.links ≡ s.links
-  pub me : t.settings.me ≡ s.settings.me
+  pub settings : t.settings ≡ s.settings
+  pub missing : t.missing ≡ s.missing
+  pub peers : grafted_for id t ≡ grafted_for id s
 
-first_by : (id : ℕ) (h : Hop) (o : Option Grafts) (s : State) → FirstRest id s (with_first id h o s)
-unfolding with_first
-first_by id h None s = record { rest = rest-still s; links = refl; me = refl }
-first_by id h (Some g) s = record { rest = record { limits = refl; received = refl; cache = refl; queue = refl; dropped = refl; init = refl }; links = refl; me = refl }
+first_by : (id : ℕ) (h : Hop) (o : Option Grafts) (s : State) → get id s.grafted ≡ o → FirstRest id s (with_first id h o s)
+unfolding with_first grafted_for peers_of
+first_by id h None s e = record { rest = rest-still s; links = refl; settings = refl; missing = refl; peers = refl }
+first_by id h (Some g) s e = record {
+  rest = record { limits = refl; received = refl; cache = refl; queue = refl; dropped = refl; init = refl };
+  links = refl;
+  settings = refl;
+  missing = refl;
+  peers = rw (get-replaced id (record { first = Some h; kept = g.kept; peers = g.peers }) g s.grafted e, e) refl;
+}
 
 rest-first : (id sender round : ℕ) (s : State) → FirstRest id s (first_set_state id sender round s)
 unfolding first_set_state
-rest-first id sender round s = first_by id (record { peer = sender; round = round }) (get id s.grafted) s
+rest-first id sender round s = first_by id (record { peer = sender; round = round }) (get id s.grafted) s refl
 
 -- the stages; `next` is the round that is sent on
 module _ (call : Call) (m : NewMessage) (next : ℕ) (s : State) where
@@ -138,9 +143,17 @@ module _ (call : Call) (m : NewMessage) (next : ℕ) (s : State) where
   unfolding taken_state
   first-links = (rest-first id m.sender round taken).links
 
-  pub first-me : first_set.settings.me ≡ s.settings.me
+  first-settings : first_set.settings ≡ s.settings
   unfolding taken_state
-  first-me = (rest-first id m.sender round taken).me
+  first-settings = (rest-first id m.sender round taken).settings
+
+  first-missing : first_set.missing ≡ s.missing
+  unfolding taken_state
+  first-missing = (rest-first id m.sender round taken).missing
+
+  first-peers : grafted_for id first_set ≡ grafted_for id s
+  unfolding taken_state grafted_for
+  first-peers = (rest-first id m.sender round taken).peers
 
   pub first-queue : first_set.queue ≡ taken.queue
   first-queue = (rest-first id m.sender round taken).rest.queue
@@ -169,13 +182,41 @@ module _ (call : Call) (m : NewMessage) (next : ℕ) (s : State) where
   unfolding pushed_on_state pushed_state recorded_state
   pushed-limits = first-limits
 
-  queued-init : queued.init ≡ s.init
-  unfolding lazy_state pushed_on_state pushed_state recorded_state
-  queued-init = first-init
-
   first-rooms : rooms_of call first_set ≡ rooms_of call s
   unfolding rooms_in
   first-rooms = ap (λ (l : Links). rooms_of call (with_links l s)) first-links
+
+  -- by what was decided
+  module _ (d : Decided call m.sender id round s m.decision) where
+    abbrev noted : LinkSet
+    noted = m.decision.push.noted
+
+    first-decided : PushIs call m.sender (keys (grafted_for id first_set)) id first_set m.decision.push
+    first-decided =
+        subst (λ (ps : Map ℕ). PushIs call m.sender (keys ps) id first_set m.decision.push) (sym first-peers)
+        (push-same s first_set first-links first-record (ap (λ (x : Settings). x.me) first-settings) call m.sender (keys (grafted_for id s)) id m.decision.push d.push)
+
+    pub notes : these_noted (links_of noted) id next first_set ≡ pushed_on
+    unfolding pushed_on_state
+    notes =
+        noted-back call m.decision.push.to id next first_set (links_of noted) (first-decided.noted.same (cached_in first_set.cache) next first-cached)
+        ∙ (λ j. pushed_state (first-rooms j) (sym first-decided.to.same j) (record { id = id; round = next }) first_set)
+
+    pub pushed-long : length s.dropped + length (links_of noted) ≡ length pushed_on.dropped
+    pushed-long = omega (arith, ap (λ (x : State). length x.dropped) notes, these-length (links_of noted) id next first_set, ap length first-record)
+
+    queued-links : queued.links ≡ s.links
+    unfolding lazy_state pushed_on_state pushed_state recorded_state
+    queued-links = first-links
+
+    queued-shortcut : ShortcutOf queued m.sender (shortcut (grafted_for id queued) id m.sender round queued) m.decision.shortcut
+    unfolding lazy_state pushed_on_state pushed_state recorded_state grafted_for
+    queued-shortcut =
+        subst (λ (ps : Map ℕ). ShortcutOf queued m.sender (shortcut ps id m.sender round queued) m.decision.shortcut) (sym first-peers)
+        (shortcut-same s queued queued-links first-missing (ap (λ (x : Settings). x.optimization_threshold) first-settings) (grafted_for id s) id m.sender round m.decision.shortcut d.shortcut)
+
+    pub finishes : finished_state id m.decision.shortcut queued ≡ end
+    finishes = finished id m.sender round queued m.decision.shortcut queued-shortcut
 
   -- where the whole is within the limits
   module _ (up : next ≡ suc round) (allowed : Allowed (after_gossip call m) s) (done : s.init ≡ true) where
@@ -200,45 +241,24 @@ module _ (call : Call) (m : NewMessage) (next : ℕ) (s : State) where
     pub first-asks : (u : State) → u ≡ taken → AtRest u × (u.init ≡ true)
     first-asks u e = (subst AtRest (sym e) taken_rest, ap (λ (x : State). x.init) e ∙ taken-init ∙ done)
 
-    pub skip-asks : (u : State) → u ≡ first_set → AtRest u
-    skip-asks u e = subst AtRest (sym e) first_rest
+    -- what noting asks
+    module _ (d : Decided call m.sender id round s m.decision) (u : State) (e : u ≡ first_set) where
+      pub notes-below : AllBelow m.decision.push.noted (length u.links)
+      notes-below = subst (λ (x : State). AllBelow m.decision.push.noted (length x.links)) (sym e) (first-decided d).noted.below
 
-    -- the entry that is found where the first event's work is done
-    module _ (u v : State) (e : u ≡ first_set) (same : v ≡ u) (k : Option ℕ) (found : EntryIs no_grafts v.grafted.entries id (get id (settled now v).grafted) k) where
-      here : EntryIs no_grafts u.grafted.entries id (get id u.grafted) k
-      here =
-          let f = subst (λ (x : State). EntryIs no_grafts x.grafted.entries id (get id (settled now x).grafted) k) same found in
-          subst (λ (x : State). EntryIs no_grafts u.grafted.entries id (get id x.grafted) k) (settled-still now u (ap (λ (x : State). x.init) e ∙ first-init ∙ done)) f
-
-      abbrev push : Push
-      push = record { sender = m.sender; skip = k }
-
-      skips : skipped_peers k u ≡ keys (grafted_for id u)
-      unfolding grafted_for
-      skips = skip-found u id (get id u.grafted) k here
-
-      pub pushes : back_state call push id next u ≡ pushed_on
-      unfolding pushed_on_state
-      pushes =
-          ap (λ (ps : List ℕ). pushed_state (rooms_of call u) (eager_targets m.sender ps u) (record { id = id; round = next }) u) skips
-          ∙ ap (λ (x : State). pushed_on_state (rooms_of call x) id next m.sender x) e
-          ∙ ap (λ r. pushed_on_state r id next m.sender first_set) first-rooms
-
-      pub back-asks : NotesBack call push id next u
-      back-asks = record {
-        rest = skip-asks u e;
-        skip = skip-there u id (get id u.grafted) k here;
-        cached = ap (λ (x : State). holds id x.cache) e ∙ first-cached;
-        room = omega (
-          arith,
-          record-within end end_fits,
-          ap length end-record,
-          ap (λ (l : Limits). l.D) end-limits,
-          ap (λ (x : State). length x.dropped) pushes,
-          ap (λ (x : State). x.limits.D) e,
-          ap (λ (l : Limits). l.D) first-limits,
-        );
-      }
+      pub notes-room : length u.dropped + length (links_of m.decision.push.noted) ≤ u.limits.D
+      notes-room =
+          omega (
+            arith,
+            record-within end end_fits,
+            ap length end-record,
+            ap (λ (l : Limits). l.D) end-limits,
+            pushed-long d,
+            ap length first-record,
+            ap (λ (x : State). length x.dropped) e,
+            ap (λ (x : State). x.limits.D) e,
+            ap (λ (l : Limits). l.D) first-limits,
+          )
 
     pub lazy-asks : (u : State) → u ≡ pushed_on → length (lazy_state id next m.sender u).queue ≤ u.limits.Q
     lazy-asks u e =
@@ -252,5 +272,7 @@ module _ (call : Call) (m : NewMessage) (next : ℕ) (s : State) where
           ap (λ (x : State). length (lazy_state id next m.sender x).queue) e,
         )
 
-    pub close-asks : (u : State) → u ≡ queued → AtRest u × (u.init ≡ true)
-    close-asks u e = (subst AtRest (sym e) queued_rest, ap (λ (x : State). x.init) e ∙ queued-init ∙ done)
+    pub finish-asks : Decided call m.sender id round s m.decision → (u : State) → u ≡ queued → AtRest u × ShortcutHeld u m.decision.shortcut
+    finish-asks d u e =
+        subst (λ (x : State). AtRest x × ShortcutHeld x m.decision.shortcut) (sym e)
+        (queued_rest, decided-held queued m.sender (shortcut (grafted_for id queued) id m.sender round queued) m.decision.shortcut (queued-shortcut d))

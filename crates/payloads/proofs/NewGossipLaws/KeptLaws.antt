@@ -1,14 +1,11 @@
 -- The stages of a new Swarm message keep what every event keeps.
 -- Assumes nothing.
-use Rattle.std.proofs.Common.{ap, ◌∙◌, subst, List, [], ℕ, leb}
-use Rattle.storage.specs.Lists.Map.{keys}
-use Rattle.protocol.specs.State.{State, Settings, zero_counts, size_in_range, durations_in_range, limits_in_range}
-use Rattle.protocol.specs.Run.{Run, Room, begin}
-use Rattle.protocol.specs.Push.{eager_push, lazy_push}
-use Rattle.protocol.specs.Gossips.{set_first, grafted_for}
+use Rattle.payloads.proofs.Words.{ap, ◌∙◌, List, [], ℕ, leb, keys, State, Settings, zero_counts, size_in_range, durations_in_range, limits_in_range, Run, Room, begin, eager_push, lazy_push, grafted_for, lazy_state}
+use Rattle.std.proofs.Common.{subst}
+use Rattle.protocol.specs.Gossips.{set_first}
 use Rattle.protocol.proofs.Walk.{walk-eager_push}
 use Rattle.protocol.proofs.ConsistentSteps.{Kept as KeptRun, kept-set_first, kept-sending, kept-lazy_push}
-use Rattle.decide.specs.StateAfter.{first_set_state, pushed_on_state, lazy_state}
+use Rattle.decide.specs.StateAfter.{first_set_state, pushed_on_state}
 use Rattle.decide.proofs.StateLaws.{eager-state, lazy-state}
 use Rattle.steps.proofs.StandsAfter.{Kept}
 

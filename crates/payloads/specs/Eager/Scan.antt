@@ -5,6 +5,7 @@ use Rattle.storage.specs.Lists.Base.{count, any}
 use Rattle.protocol.specs.State.{State, Note}
 use Rattle.protocol.specs.Push.{for_peer, notes}
 use Rattle.block.specs.LinkSteps.{peer_at}
+use Rattle.steps.specs.declared.link_set.LinkSet.{LinkSet}
 use Rattle.payloads.specs.Eager.Targets.{hands_back}
 
 -- m notes were seen for the peer, and one more is seen: 256 says that the peer gets none
@@ -17,13 +18,13 @@ seen p id [] m = m
 seen p id (n ∷ ns) m = seen p id ns (seen_after p id n m)
 
 -- link l hands the push back, has fewer than 256 notes, and none of the identifier
-unfoldable pub wants_note : ℕ → List ℕ → List ℕ → ℕ → State → ℕ → Bool
-wants_note sender skip rooms id s l =
-    hands_back sender skip rooms s l && not (leb 256 (count (for_peer (peer_at s l)) s.dropped) || any (notes (peer_at s l) id) s.dropped)
+unfoldable pub wants_note : LinkSet → List ℕ → ℕ → State → ℕ → Bool
+wants_note to rooms id s l =
+    hands_back to rooms l && not (leb 256 (count (for_peer (peer_at s l)) s.dropped) || any (notes (peer_at s l) id) s.dropped)
 
 -- 0 for each of n links that hands the push back, else 256
-pub record Starts (sender : ℕ) (skip rooms : List ℕ) (s : State) (n : ℕ) (r : List ℕ) : Type 0 where
-  pub each : (l : ℕ) → l < n → get_or r l 0 ≡ (if hands_back sender skip rooms s l then 0 else 256)
+pub record Starts (to : LinkSet) (rooms : List ℕ) (n : ℕ) (r : List ℕ) : Type 0 where
+  pub each : (l : ℕ) → l < n → get_or r l 0 ≡ (if hands_back to rooms l then 0 else 256)
   pub long : length r ≡ 32
 
 -- the record was seen for each of n links
@@ -31,5 +32,5 @@ pub record SeenFor (s : State) (n id : ℕ) (marks r : List ℕ) : Type 0 where
   pub each : (l : ℕ) → l < n → get_or r l 0 ≡ seen (peer_at s l) id s.dropped (get_or marks l 0)
 
 -- a number below 256 for each of n links that gets a note
-pub record Wants (sender : ℕ) (skip rooms : List ℕ) (id : ℕ) (s : State) (n : ℕ) (r : List ℕ) : Type 0 where
-  pub each : (l : ℕ) → l < n → ltb (get_or r l 0) 256 ≡ wants_note sender skip rooms id s l
+pub record Wants (to : LinkSet) (rooms : List ℕ) (id : ℕ) (s : State) (n : ℕ) (r : List ℕ) : Type 0 where
+  pub each : (l : ℕ) → l < n → ltb (get_or r l 0) 256 ≡ wants_note to rooms id s l

@@ -1,29 +1,24 @@
 -- Whom an eager push goes to, and who hands it back.
 -- Assumes nothing.
-use Rattle.std.specs.Prelude.{ℕ, ◌<◌, List, [], length, Option, Some, None}
-use Rattle.storage.specs.Lists.Map.{keys}
+use Rattle.std.specs.Prelude.{ℕ, ◌≡◌, List, map, length}
 use Rattle.protocol.specs.State.{State}
 use Rattle.protocol.specs.Push.{eager_targets}
 use Rattle.decide.specs.Rooms.{back_peers}
-use Rattle.block.specs.Caches.GraftSteps.{grafts_at}
+use Rattle.block.specs.LinkSteps.{peer_at}
 use Rattle.steps.specs.Calls.{rooms_of}
+use Rattle.steps.specs.LinkSets.{links_of, AllBelow}
 use Rattle.steps.specs.declared.call.Call.{Call}
-use Rattle.payloads.specs.declared.eager_push.target.Push.{Push}
+use Rattle.steps.specs.declared.link_set.LinkSet.{LinkSet}
 
--- "grafted peers": those of the grafted entry, or none
-unfoldable pub skipped_peers : Option ℕ → State → List ℕ
-skipped_peers (Some i) s = keys (grafts_at s i).peers
-skipped_peers None s = []
+-- the peers of these links
+abbrev pub link_peers : LinkSet → State → List ℕ
+link_peers to s = map (peer_at s) (links_of to)
 
--- the grafted entry is there
-abbrev pub SkipThere : Option ℕ → State → Type 0
-SkipThere (Some i) s = i < length s.grafted.entries
-SkipThere None s = Unit {0}
-
--- whom the push goes to
-abbrev pub push_targets : Push → State → List ℕ
-push_targets push s = eager_targets push.sender (skipped_peers push.skip s) s
+-- the push goes to these links
+pub record TargetsAre (sender : ℕ) (skip : List ℕ) (s : State) (to : LinkSet) : Type 0 where
+  pub below : AllBelow to (length s.links)
+  pub same : eager_targets sender skip s ≡ link_peers to s
 
 -- those of them that hand it back
-abbrev pub push_backs : Call → Push → State → List ℕ
-push_backs call push s = back_peers (rooms_of call s) (push_targets push s)
+abbrev pub push_backs : Call → LinkSet → State → List ℕ
+push_backs call to s = back_peers (rooms_of call s) (link_peers to s)

@@ -1,31 +1,29 @@
-// What is handed back of an eager push is noted: the specification, "Record".
-ghost use Rattle.std.specs.Prelude.{ℕ, Bool, ◌≡◌, ◌<◌, ◌≤◌, true, false, length, All, []};
+// What is noted of an eager push that is handed back: the specification, "Record".
+ghost use Rattle.std.specs.Prelude.{◌≡◌, false, length, []};
 ghost use Rattle.storage.specs.Rows.Ident.{id_of};
 ghost use Rattle.block.specs.Views.{shown};
-ghost use Rattle.block.specs.Panels.{state, Goes, AtRest};
-ghost use Rattle.steps.specs.Record.{with_these};
+ghost use Rattle.block.specs.Panels.{AtRest};
+ghost use Rattle.steps.specs.LinkSets.{AllBelow};
 ghost use Rattle.payloads.specs.Eager.Scan.{Starts, SeenFor};
-ghost use Rattle.payloads.specs.EagerPush.Targets.{skipped_peers, SkipThere, push_backs};
-ghost use Rattle.payloads.specs.EagerPush.Notes.{record_back, back_state, NotesBack};
+ghost use Rattle.payloads.specs.EagerPush.Targets.{push_backs};
+ghost use Rattle.payloads.specs.EagerPush.Notes.{NotedAre};
 
-use crate::eager_push::target::{Push, hands_back};
-use arrayvec::ArrayVec;
+use crate::eager_push::target::hands_back;
 use block::head::MAX_LINKS;
 use block::note::NoteTable;
-use block::panel::{Panel, View};
-use postcard::units::Round;
+use block::panel::View;
 use protocol::{MAX_DROPPED, MAX_DROPPED_PER_PEER};
 use steps::call::Call;
-use steps::note_these::note_these;
+use steps::link_set::LinkSet;
 use storage::rows::id::Id;
 
 // Whether a link hands the push back. Its time is that of one pass over the links.
-fn is_handed_back(view: &View, call: &Call, push: &Push) -> bool
-    requires { AtRest (shown view.now) × SkipThere push.now.skip (shown view.now) }
-    ensures { result ≡ false → push_backs call.now push.now (shown view.now) ≡ [] }
+fn is_handed_back(view: &View, call: &Call, to: LinkSet) -> bool
+    requires { AtRest (shown view.now) × AllBelow to (length (shown view.now).links) }
+    ensures { result ≡ false → push_backs call.now to (shown view.now) ≡ [] }
 {
     for link in 0..view.link_count() {
-        if hands_back(view, call, push, link) {
+        if hands_back(call, to, link) {
             return true;
         }
     }
@@ -33,13 +31,13 @@ fn is_handed_back(view: &View, call: &Call, push: &Push) -> bool
 }
 
 // For each link 0 if it hands the push back, else 256. Its time is that of one pass over the links.
-fn first_marks(view: &View, call: &Call, push: &Push) -> [usize; MAX_LINKS]
-    requires { AtRest (shown view.now) × SkipThere push.now.skip (shown view.now) }
-    ensures { Starts push.now.sender (skipped_peers push.now.skip (shown view.now)) call.now.rooms.now.links (shown view.now) (length (shown view.now).links) result }
+fn first_marks(view: &View, call: &Call, to: LinkSet) -> [usize; MAX_LINKS]
+    requires { AtRest (shown view.now) × AllBelow to (length (shown view.now).links) }
+    ensures { Starts to call.now.rooms.now.links (length (shown view.now).links) result }
 {
     let mut marks = [0usize; MAX_LINKS];
     for link in 0..view.link_count() {
-        let back = hands_back(view, call, push, link);
+        let back = hands_back(call, to, link);
         marks[link] = if back { 0 } else { MAX_DROPPED_PER_PEER };
     }
     marks
@@ -66,33 +64,23 @@ fn marks_after(view: &View, from: [usize; MAX_LINKS], id: Id) -> [usize; MAX_LIN
     marks
 }
 
-// The links that get a note of a cached identifier that is pushed: those that hand it back, "added unless the peer has 256 or all have 4,096", or it is there. Its time
-// is that of one pass over the links and, where one hands it back, of one over the record's column of link numbers.
-pub fn to_note(view: &View, call: &Call, push: &Push, id: Id) -> ArrayVec<u8, MAX_LINKS>
-    requires { AtRest (shown view.now) × SkipThere push.now.skip (shown view.now) }
-    ensures noted { (held : ℕ → Bool) (round : ℕ) → held (id_of id) ≡ true → record_back held call.now push.now (id_of id) round (shown view.now) ≡ with_these result.items (id_of id) round (shown view.now) }
-    ensures links { All (λ link. link < length (shown view.now).links) result.items }
-    ensures few { length result.items ≤ MAX_LINKS }
+// The links that get a note of an identifier that is pushed and will be cached: those that hand it back, "added unless the peer has 256 or all have 4,096", or it is
+// there. Its time is that of one pass over the links and, where one hands it back, of one over the record's column of link numbers.
+pub fn to_note(view: &View, call: &Call, to: LinkSet, id: Id) -> LinkSet
+    requires { AtRest (shown view.now) × AllBelow to (length (shown view.now).links) }
+    ensures { NotedAre call.now to (id_of id) (shown view.now) result }
 {
-    let mut noted = ArrayVec::new();
-    if !is_handed_back(view, call, push) {
+    let mut noted = LinkSet::none();
+    if !is_handed_back(view, call, to) {
         return noted;
     }
-    let marks = marks_after(view, first_marks(view, call, push), id);
+    let marks = marks_after(view, first_marks(view, call, to), id);
+    let mut recorded = view.record_len();
     for link in 0..view.link_count() {
-        if marks[link] < MAX_DROPPED_PER_PEER && view.record_len() + noted.len() < MAX_DROPPED {
-            noted.push(link as u8);
+        if marks[link] < MAX_DROPPED_PER_PEER && recorded < MAX_DROPPED {
+            noted = noted.with(link);
+            recorded += 1;
         }
     }
     noted
-}
-
-// `eager_push`, the record: "handed back are noted after all sends", which is `note_dropped` of a cached identifier for each link that handed it back. Its time is that
-// of `to_note`.
-pub fn note_back(panel: &mut Panel, call: &Call, push: &Push, id: Id, round: Round)
-    requires { NotesBack call.now push.now (id_of id) round.0 (state panel.old) }
-    ensures { Goes (back_state call.now push.now (id_of id) round.0) panel.old panel.new }
-{
-    let noted = to_note(&panel.view(), call, push, id);
-    note_these(panel, &noted, id, round);
 }

@@ -1,11 +1,7 @@
 -- The list of docs/GUARANTEE.md, computed, for any calls: one, a saving under the name 1, a second, a return, a third.
 -- Assumes nothing.
-use Rattle.std.proofs.Common.{ℕ, ◌≡◌, refl, List, [], ◌∷◌}
+use Rattle.plumtree.proofs.Words.{ℕ, ◌≡◌, refl, List, [], ◌∷◌, Counts, Call, Settings, Limits}
 use Rattle.storage.specs.Lists.Map.{Entry, lookup}
-use Rattle.protocol.specs.State.{Counts}
-use Rattle.protocol.specs.Answer.{Call}
-use Rattle.block.specs.declared.head.Settings.{Settings}
-use Rattle.block.specs.declared.head.Limits.{Limits}
 use Rattle.whole.specs.States.Kept.{keep}
 use Rattle.plumtree.specs.Chain.{Seen}
 use Rattle.plumtree.specs.CallList.{fresh_list, with_call}

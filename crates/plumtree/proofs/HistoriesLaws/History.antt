@@ -1,19 +1,13 @@
 -- The guarantees after savings and returns: block and counts of each panel, and of each state kept, are what its list of calls left (`From`), and so `guarantee` speaks of it.
 -- Assumes nothing.
-use Rattle.std.proofs.Common.{ℕ, zero, suc, ◌+◌, ◌*◌, ◌≤◌, ◌≡◌, refl, sym, ap, subst, ◌∙◌, true, false, List, [], ◌∷◌, ◌++◌, map, eqb-true, le-leb, eqb, length, get_or, take, replicate, if◌then◌else◌, Some}
+use Rattle.plumtree.proofs.Words.{ℕ, zero, suc, ◌+◌, ◌*◌, ◌≤◌, ◌≡◌, refl, sym, ap, subst, ◌∙◌, true, false, List, [], ◌∷◌, ◌++◌, map, eqb-true, le-leb, eqb, length, get_or, take, replicate, if◌then◌else◌, Some, cases, true≢, Counts, Created, created, not_created, create, zero_counts, Call, Outcome, refused, accepted, answer_block, settings_of, limits_of, Settings, Limits, identifier, Lent, Finds, Called}
 use borrow.Author.Tests.{eqb-false}
 use lib.ListN.{length-replicate}
 use Rattle.storage.specs.Lists.Map.{Entry, lookup}
-use Rattle.storage.proofs.ListsLaws.MapLaws.{cases, true≢}
-use Rattle.protocol.specs.State.{Counts, Created, created, not_created, create, fresh, zero_counts, Settings as PanelSettings, Limits as PanelLimits}
+use Rattle.protocol.specs.State.{fresh, Settings as PanelSettings, Limits as PanelLimits}
 use Rattle.protocol.specs.Whole.{whole}
-use Rattle.protocol.specs.Answer.{Call, Outcome, refused, accepted, answer_block}
-use Rattle.block.specs.View.{settings_of, limits_of}
-use Rattle.block.specs.declared.head.Settings.{Settings}
-use Rattle.block.specs.declared.head.Limits.{Limits}
 use Rattle.protocol.proofs.CreatedWhole.{created-whole}
 use Rattle.protocol.proofs.NeverFive.{never-five}
-use Rattle.blake3.specs.Blake3.{identifier}
 use Rattle.whole.specs.Held.{held, whole_held, whole_block}
 use Rattle.whole.proofs.WholeLaws.{held-round}
 use Rattle.whole.specs.Creation.{Creates}
@@ -22,7 +16,6 @@ use Rattle.whole.specs.States.Area.{slots, kept, kept_in, area_holds, InWidth, L
 use Rattle.whole.specs.States.Calls.{Saves, Returns}
 use Rattle.whole.proofs.StatesLaws.LeftBy.{area-exact}
 use Rattle.whole.proofs.StatesLaws.Accepted.{kept-after, left_after, saved-not, Found, brought, returned-there, returned-not}
-use Rattle.machine.specs.Called.{Lent, Finds, Called}
 use Rattle.output_size.specs.OutputSize.{AllBytes}
 use Rattle.plumtree.specs.Calls.{Made, counts_left}
 use Rattle.plumtree.specs.Chain.{Seen, Chain, done, next, Guaranteed}

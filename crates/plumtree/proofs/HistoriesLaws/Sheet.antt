@@ -1,13 +1,10 @@
 -- The commissioning sheet over blocks: each chain goes through the states of the definitions, and these answer the same.
 -- Assumes nothing.
-use Rattle.std.proofs.Common.{ℕ, ◌≡◌, refl, sym, ap, subst, ◌∙◌, Bool, true, false, ◌&&◌, List, [], ◌∷◌, map, length, if◌then◌else◌, Option, Some, None}
+use Rattle.plumtree.proofs.Words.{ℕ, ◌≡◌, refl, sym, ap, subst, ◌∙◌, Bool, true, false, ◌&&◌, List, [], ◌∷◌, map, length, if◌then◌else◌, Option, Some, None, cases, true≢, and_left, and_right, and_intro, identifier, State, Counts, Call, Answer, refuse, accept}
 use Rattle.storage.specs.Lists.Base.{concat_map}
-use Rattle.storage.proofs.ListsLaws.MapLaws.{cases, true≢, and_left, and_right, and_intro}
 use Rattle.postcard.specs.Message.{action_bytes}
-use Rattle.blake3.specs.Blake3.{identifier}
-use Rattle.protocol.specs.State.{State, Counts}
 use Rattle.protocol.specs.Whole.{whole, long_enough, whole_state}
-use Rattle.protocol.specs.Answer.{Call, Answer, refuse, accept, output_of}
+use Rattle.protocol.specs.Answer.{output_of}
 use Rattle.protocol.specs.Calls.{Ran, run_calls}
 use Rattle.protocol.specs.Alike.{alike, likeness, likeness_of, alike_blocks}
 use Rattle.whole.specs.Held.{held}

@@ -1,9 +1,8 @@
 -- `plumtree_create`: an accepted creation leaves the counts zero, a refused one leaves them.
-use Rattle.std.proofs.Common.{refl, sym}
+use Rattle.plumtree.proofs.Words.{refl, sym, counts_of}
 use Rattle.refusal.specs.Numbers.{number_of}
 use Rattle.refusal.proofs.NumberLaws.{not_0}
 use Rattle.protocol.specs.State.{zero_counts}
-use Rattle.machine.specs.Called.{counts_of}
 use Rattle.plumtree.specs.Calls.{Made}
 use Rattle.plumtree.proofs.ListLaws.{fresh_list-leads}
 use Rattle.plumtree.proofs.CreationLaws.{made-zero, made-left}

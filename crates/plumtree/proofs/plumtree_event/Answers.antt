@@ -1,8 +1,7 @@
 -- `plumtree_event`: the call with the array of rooms is the call with the lent entries.
-use Rattle.std.proofs.Common.{arith}
+use Rattle.plumtree.proofs.Words.{arith, lent, call_of, Called}
 use Rattle.refusal.specs.Numbers.{number_of}
 use Rattle.postcard.proofs.FieldBack.{bytes-each}
-use Rattle.machine.specs.Called.{lent, call_of, Called}
 use Rattle.plumtree.specs.Calls.{entries}
 use Rattle.plumtree.proofs.CallLaws.{called-entries}
 use Rattle.plumtree.proofs.ListLaws.{with_call-leads}

@@ -1,6 +1,5 @@
 -- `plumtree_return`: the counts that a return brought back are stored; a refused one has left them.
-use Rattle.std.proofs.Common.{refl}
-use Rattle.machine.specs.Called.{counts_of}
+use Rattle.plumtree.proofs.Words.{refl, counts_of}
 use Rattle.plumtree.proofs.ListLaws.{returned-leads}
 use Rattle.plumtree.proofs.plumtree_return.Goals as goal
 

@@ -1,20 +1,14 @@
 -- The numbers of entries of a state that stands, and of what a first event, EvictCache and neighbour down leave of it: within the limits, and so within the specification's ceilings.
 -- Assumes nothing.
-use Rattle.std.proofs.Common.{ℕ, ◌≤◌, ◌≡◌, refl, sym, ◌∙◌, subst, true, List, arith, le-leb}
-use Rattle.storage.proofs.ListsLaws.MapLaws.{cases, and_intro}
-use Rattle.protocol.specs.State.{State}
-use Rattle.protocol.specs.Whole.{fits, whole}
+use Rattle.steps.proofs.Words.{ℕ, ◌≤◌, ◌≡◌, refl, sym, ◌∙◌, true, List, arith, le-leb, cases, and_intro, State, fits, whole, limits_of, Head, Sizes, sizes_of, down_sizes, settled, AtRest}
+use Rattle.std.proofs.Common.{subst}
 use Rattle.protocol.proofs.Consistent.{consistent-whole}
-use Rattle.block.specs.View.{state_of, limits_of}
+use Rattle.block.specs.View.{state_of}
 use Rattle.block.specs.Fit.{Fit}
 use Rattle.block.specs.Sound.{Sound}
-use Rattle.block.specs.declared.head.Head.{Head}
-use Rattle.decide.specs.Sizes.{Sizes, sizes_of, fit_sizes}
-use Rattle.decide.proofs.SizesAfter.{down_sizes}
-use Rattle.decide.specs.Settled.{settled}
+use Rattle.decide.specs.Sizes.{fit_sizes}
 use Rattle.decide.proofs.Decide.{Below, fit-below, down-below, evict-below}
 use Rattle.decide.proofs.TableSizes.{fits-sizes}
-use Rattle.block.specs.Panels.{AtRest}
 use Rattle.steps.proofs.SettledLaws.SizeLaws.{sizes-live, sizes-still, sizes-evicted}
 
 -- within the ceilings

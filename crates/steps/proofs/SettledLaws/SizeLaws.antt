@@ -1,15 +1,11 @@
 -- The numbers of entries, as they stand and as eviction leaves them, and a sum over the entries as a loop makes it.
 -- Assumes nothing.
-use Rattle.std.proofs.Common.{ℕ, zero, suc, ◌+◌, ◌≤◌, ◌<◌, ◌≡◌, refl, sym, ap, ◌∙◌, Bool, true, false, not, List, [], ◌∷◌, add-one, arith, ltb, length, get_or, take, if◌then◌else◌}
+use Rattle.steps.proofs.Words.{ℕ, zero, suc, ◌+◌, ◌≤◌, ◌<◌, ◌≡◌, refl, sym, ap, ◌∙◌, Bool, true, false, not, List, [], ◌∷◌, add-one, arith, ltb, length, get_or, take, if◌then◌else◌, Map, Timed, later_cache, State, Cached, Head, Sizes, settled}
 use borrow.Author.Tests.{not-true, not-false}
 use Rattle.storage.specs.Lists.Base.{sum}
-use Rattle.storage.specs.Lists.Map.{Map}
-use Rattle.time_cache.specs.TimeCache.{Timed, later_cache}
-use Rattle.protocol.specs.State.{State, Cached}
 use Rattle.protocol.specs.Whole.{content_held}
 use Rattle.block.specs.View.{state_of}
 use Rattle.block.specs.Sound.{Sound}
-use Rattle.block.specs.declared.head.Head.{Head}
 use Rattle.block.proofs.LinkLaws.{count-links}
 use Rattle.block.proofs.MissingLaws.{count-missing}
 use Rattle.block.proofs.TimerLaws.{count-timers}
@@ -18,9 +14,8 @@ use Rattle.block.specs.Caches.CachedReads.{cached_at}
 use Rattle.block.proofs.CachesLaws.ReceivedLaws.{count-received, count-received-rows}
 use Rattle.block.proofs.CachesLaws.CachedLaws.{count-cached, count-cached-rows}
 use Rattle.block.proofs.CachesLaws.GraftedLaws.{count-grafted, count-grafted-rows}
-use Rattle.decide.specs.Sizes.{Sizes, sizes_of}
+use Rattle.decide.specs.Sizes.{sizes_of}
 use Rattle.decide.proofs.SizesAfter.{evict_sizes, settled_sizes}
-use Rattle.decide.specs.Settled.{settled}
 use Rattle.decide.proofs.SettledLaws.{length-later, expiry-later, settled-sizes}
 use Rattle.steps.specs.Settled.Then.{no_cached, later_bytes}
 

@@ -1,23 +1,20 @@
 -- What a first event's eviction leaves of a time cache, found in the cache as it stands.
 -- Assumes nothing.
-use Rattle.std.proofs.Common.{ℕ, ◌*◌, ◌≤◌, ◌<◌, ◌≡◌, refl, sym, ap, ◌∙◌, subst, Bool, true, false, List, [], map, arith, ltb, lit<, length, get_or, if◌then◌else◌, Some, None}
+use Rattle.steps.proofs.Words.{ℕ, ◌*◌, ◌≤◌, ◌<◌, ◌≡◌, refl, sym, ap, ◌∙◌, Bool, true, false, List, [], map, arith, ltb, lit<, length, get_or, if◌then◌else◌, Some, None, Map, Entry, entry, lookup, cases, Timed, Cache, later_cache, State, Limits, Cached, Grafts, limits_of, cached_of, Head}
+use Rattle.std.proofs.Common.{subst}
 use lib.ListN.{length-map}
-use Rattle.storage.specs.Lists.Map.{Map, Entry, entry, lookup}
-use Rattle.storage.proofs.ListsLaws.MapLaws.{cases}
 use Rattle.storage.proofs.ListsLaws.Branches.{if-on, if-both}
 use Rattle.storage.specs.Refs.Refs.{Ref, ref, refs, places}
 use Rattle.storage.proofs.RefsLaws.Places.{get_or-map-in, length-refs}
-use Rattle.time_cache.specs.TimeCache.{Timed, Cache, value_of, get, later_cache}
+use Rattle.time_cache.specs.TimeCache.{value_of, get}
 use Rattle.time_cache.specs.Tables.{expiry_rows, row_at, ValueBytes, value_bytes, entry_of, cache_of, cache_in, refs_at, rows_at, cache_at, read_as, values_as, Sound}
 use Rattle.time_cache.specs.Steps.{ref_at, held_at, GotAt}
 use Rattle.time_cache.specs.declared.cache.TimeBoundCache.{TimeBoundCache}
 use Rattle.time_cache.proofs.ReadLaws.{length-es}
 use Rattle.time_cache.proofs.ValueLaws.{option_as, get-as, later-as}
-use Rattle.protocol.specs.State.{State, Limits, Cached, Grafts}
 use Rattle.block.specs.Layout.{sizes, table}
-use Rattle.block.specs.View.{state_of, limits_of, cached_of, cached_in}
+use Rattle.block.specs.View.{state_of, cached_in}
 use Rattle.block.specs.Fit.{Fit}
-use Rattle.block.specs.declared.head.Head.{Head}
 use Rattle.block.specs.TimeCaches.{cache_from, cached_cache}
 use Rattle.block.proofs.CachesLaws.CacheLaws.{refs-in, rows_in}
 use Rattle.decide.specs.Settled.{alive_value, settled}

@@ -1,10 +1,6 @@
 -- What a saving and a return mean for what the area keeps: the steps of a history.
 -- Assumes nothing.
-use Rattle.std.proofs.Common.{Option, Some, None, ◌≡◌, refl, sym, ap, ◌∙◌, subst, true, List, [], ◌∷◌, ℕ, arith, length}
-use Rattle.storage.specs.Lists.Map.{Entry, entry, lookup}
-use Rattle.storage.proofs.ListsLaws.MapLaws.{cases}
-use Rattle.storage.specs.Rows.Part.{put}
-use Rattle.protocol.specs.State.{Counts}
+use Rattle.whole.proofs.Words.{Option, Some, None, ◌≡◌, refl, sym, ap, ◌∙◌, subst, true, List, [], ◌∷◌, ℕ, arith, length, Entry, entry, lookup, cases, put, Counts}
 use Rattle.whole.specs.Held.{whole_block}
 use Rattle.whole.specs.States.Kept.{Kept, keep}
 use Rattle.whole.specs.States.Area.{area_bytes, kept_in, area_holds, no_room, SaveAnswer, not_saved, saved_to, save, ReturnAnswer, not_returned, brought_back, or_unknown, go_back, InWidth, LeftBy, saved}

@@ -1,8 +1,8 @@
 -- "Named states", computed: areas that question 17 takes and refuses, and names.
 -- Assumes nothing.
-use Rattle.std.proofs.Common.{Some, ℕ, ◌≡◌, refl, true, false, List, [], ◌∷◌, ◌++◌, replicate}
+use Rattle.whole.proofs.Words.{Some, ℕ, ◌≡◌, refl, true, false, List, [], ◌∷◌, ◌++◌, replicate, Entry, entry}
 use Rattle.storage.specs.Lists.Base.{all, once, member, concat_map}
-use Rattle.storage.specs.Lists.Map.{Entry, entry, lookup}
+use Rattle.storage.specs.Lists.Map.{lookup}
 use Rattle.storage.specs.Rows.Part.{part, put}
 use Rattle.storage.specs.Rows.Digits.{le_nat, le_bytes}
 use Rattle.protocol.specs.Alike.{same_list}

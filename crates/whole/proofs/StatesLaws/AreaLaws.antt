@@ -1,15 +1,13 @@
 -- The bytes of an area and what they keep: what is read from `area_bytes` is what was kept, and bytes whose spare places are 0 are those of what they keep.
 -- Assumes nothing.
-use Rattle.std.proofs.Common.{◌≡◌, refl, sym, ap, ◌∙◌, subst, ◌⊎◌, inl, inr, List, [], ◌∷◌, ◌++◌, ℕ, zero, suc, ◌+◌, ◌-◌, ◌*◌, ◌^◌, ◌≤◌, ◌<◌, mul-zero, mul-suc, zero-add, add-zero, eq-or-lt_of_le, arith, length, get_or, take, replicate, length-append, take-suc, ext_get_or}
+use Rattle.whole.proofs.Words.{◌≡◌, refl, sym, ap, ◌∙◌, subst, ◌⊎◌, inl, inr, List, [], ◌∷◌, ◌++◌, ℕ, zero, suc, ◌+◌, ◌-◌, ◌*◌, ◌^◌, ◌≤◌, ◌<◌, mul-zero, mul-suc, zero-add, add-zero, eq-or-lt_of_le, arith, length, get_or, take, replicate, length-append, take-suc, ext_get_or, Entry, entry, put, le_nat, length_part, length-put, part-before, part-after, part-part, part-add, part-put-in, get_d_part, get_or-put-in, get_or-put-before, get_or-put-after}
 use lib.ListN.{length-replicate, get_or-replicate, get_or-append}
 use lib.Seq.{take-length, get_or_at}
 use Rattle.storage.specs.Lists.Base.{concat_map}
-use Rattle.storage.specs.Lists.Map.{Entry, entry}
 use Rattle.storage.proofs.ListsLaws.ListLaws.{concat-append, concat-one}
-use Rattle.storage.specs.Rows.Part.{part, put}
-use Rattle.storage.specs.Rows.Digits.{le_nat, le_bytes}
+use Rattle.storage.specs.Rows.Part.{part}
+use Rattle.storage.specs.Rows.Digits.{le_bytes}
 use Rattle.storage.proofs.RowsLaws.Digits.{Bytes, le_nat-le_bytes, le_nat-below, le_bytes-le_nat, part_bytes}
-use Rattle.storage.proofs.RowsLaws.Parts.{length_part, length-put, part-before, part-after, part-part, part-add, part-put-in, get_d_part, get_or-put-in, get_or-put-before, get_or-put-after}
 use Rattle.storage.proofs.RefsLaws.Shifts.{low_or_high}
 use Rattle.whole.specs.States.Kept.{Kept}
 use Rattle.whole.specs.States.Area.{row_bytes, area_bytes, name_at, kept_at, slots, kept, kept_in, InWidth}

@@ -1,14 +1,10 @@
 -- A saving and a return, answer by answer.
 -- Assumes nothing.
-use Rattle.std.proofs.Common.{Some, None, Result, Ok, Err, is_ok, ◌≡◌, refl, sym, ap, ◌∙◌, subst, ◌⊎◌, inl, inr, Bool, true, false, List, [], ◌∷◌, ℕ, ◌+◌, ◌-◌, ◌*◌, ◌≤◌, ◌<◌, eq-or-lt_of_le, arith, le-leb, length, get_or}
+use Rattle.whole.proofs.Words.{Some, None, Result, Ok, Err, is_ok, ◌≡◌, refl, sym, ap, ◌∙◌, subst, ◌⊎◌, inl, inr, Bool, true, false, List, [], ◌∷◌, ℕ, ◌+◌, ◌-◌, ◌*◌, ◌≤◌, ◌<◌, eq-or-lt_of_le, arith, le-leb, length, get_or, lt-leb, Entry, entry, lookup, part, put, Counts}
 use Rattle.std.proofs.lemmas.Bool.{true≢false}
-use borrow.Author.Tests.{lt-leb}
-use Rattle.storage.specs.Lists.Map.{Entry, entry, lookup}
-use Rattle.storage.specs.Rows.Part.{part, put}
 use Rattle.refusal.specs.Numbers.{number_of, answer_of}
 use Rattle.refusal.specs.declared.Refusal.{Refusal}
 use Rattle.refusal.specs.declared.Refusal.TheVariants.{BlockNotWhole, AreaNotWhole}
-use Rattle.protocol.specs.State.{Counts}
 use Rattle.whole.specs.Held.{whole_block}
 use Rattle.whole.specs.States.Kept.{Kept, keep}
 use Rattle.whole.specs.States.Area.{row_bytes, area_bytes, counts_at, kept_at, slots, kept, kept_in, area_holds, no_room, save, or_unknown, go_back}

@@ -1,15 +1,10 @@
 -- Question 17 by its parts.
 -- Assumes nothing.
-use Rattle.std.proofs.Common.{◌≡◌, refl, sym, ap, ◌∙◌, subst, Bool, true, false, ◌&&◌, List, [], ◌∷◌, map, ℕ, ◌+◌, ◌*◌, ◌≤◌, ◌<◌, arith, eq-eqb, eqb-true, le-leb, leb-true, leb, eqb, length, get_or}
+use Rattle.whole.proofs.Words.{◌≡◌, refl, sym, ap, ◌∙◌, subst, Bool, true, false, ◌&&◌, List, [], ◌∷◌, map, ℕ, ◌+◌, ◌*◌, ◌≤◌, ◌<◌, arith, eq-eqb, eqb-true, le-leb, leb-true, leb, eqb, length, get_or, all, once, Entry, cases, true≢, and_left, and_right, and_intro, all-at, at_all, once-of, of-once, part}
 use lib.ListN.{length-map, get_or-map}
-use Rattle.storage.specs.Lists.Base.{all, once}
-use Rattle.storage.specs.Lists.Map.{Entry}
-use Rattle.storage.proofs.ListsLaws.MapLaws.{cases, true≢, and_left, and_right, and_intro}
-use Rattle.storage.proofs.ListsLaws.Places.{all-at, at_all, once-of, of-once}
 use Rattle.storage.proofs.RowsLaws.Digits.{Bytes}
 use Rattle.protocol.specs.Alike.{same_list}
 use Rattle.whole.specs.Held.{whole_block}
-use Rattle.storage.specs.Rows.Part.{part}
 use Rattle.whole.specs.States.Kept.{Kept}
 use Rattle.whole.specs.States.Area.{area_bytes, name_at, kept_at, slots, kept, kept_in, area_holds}
 use Rattle.whole.specs.States.Calls.{Zeros, SlotsHold}

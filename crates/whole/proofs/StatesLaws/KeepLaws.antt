@@ -1,10 +1,8 @@
 -- One state more, or another under its name: where it stands, and the bytes.
 -- Assumes nothing.
-use Rattle.std.proofs.Common.{Some, None, ◌≡◌, refl, sym, ap, ◌∙◌, List, [], ◌∷◌, ℕ, zero, suc, ◌+◌, ◌-◌, ◌*◌, ◌≤◌, ◌<◌, zero-le, suc-le-suc, le_of_suc-le-suc, not-suc-le-zero, zero-add, arith, eq-eqb, ne_eqb, length, get_or, replicate, length-append, length-take, length-drop}
-use Rattle.storage.specs.Lists.Base.{concat_map}
-use Rattle.storage.specs.Lists.Map.{Entry, lookup}
+use Rattle.whole.proofs.Words.{Some, None, ◌≡◌, refl, sym, ap, ◌∙◌, List, [], ◌∷◌, ℕ, zero, suc, ◌+◌, ◌-◌, ◌*◌, ◌≤◌, ◌<◌, zero-le, suc-le-suc, le_of_suc-le-suc, not-suc-le-zero, zero-add, arith, eq-eqb, ne_eqb, length, get_or, replicate, length-append, length-take, length-drop, concat_map, Entry, length-put, put-comm, put-over, put-within}
+use Rattle.storage.specs.Lists.Map.{lookup}
 use Rattle.storage.specs.Rows.Part.{put}
-use Rattle.storage.proofs.RowsLaws.Parts.{length-put, put-comm, put-over, put-within}
 use Rattle.whole.specs.States.Kept.{Kept, keep}
 use Rattle.whole.specs.States.Area.{row_bytes, area_bytes}
 use Rattle.whole.proofs.StatesLaws.Slots.{Sized, put-parts, slot-end, slot-start}

@@ -1,10 +1,7 @@
 -- Laws that the leaves' loops cite.
 -- Assumes nothing.
-use Rattle.std.proofs.Common.{◌≡◌, refl, sym, ap, ◌∙◌, ◌⊎◌, inl, inr, Bool, true, false, List, [], ◌∷◌, ◌++◌, append_assoc, ℕ, zero, suc, ◌+◌, ◌-◌, ◌*◌, ◌≤◌, ◌<◌, eq-or-lt_of_le, arith, length, get_or, length-append}
-use Rattle.storage.proofs.ListsLaws.MapLaws.{true≢}
-use Rattle.storage.specs.Rows.Part.{part, put}
+use Rattle.whole.proofs.Words.{◌≡◌, refl, sym, ap, ◌∙◌, ◌⊎◌, inl, inr, Bool, true, false, List, [], ◌∷◌, ◌++◌, append_assoc, ℕ, zero, suc, ◌+◌, ◌-◌, ◌*◌, ◌≤◌, ◌<◌, eq-or-lt_of_le, arith, length, get_or, length-append, true≢, part, put, put-put-next, get_d_part}
 use Rattle.storage.specs.Rows.Digits.{le_nat}
-use Rattle.storage.proofs.RowsLaws.Parts.{put-put-next, get_d_part}
 use Rattle.storage.proofs.RefsLaws.Shifts.{low_or_high}
 use Rattle.whole.specs.Held.{whole_block}
 use Rattle.whole.specs.States.Area.{name_at}

@@ -1,16 +1,10 @@
 -- Question 17 is answered yes exactly of the areas that savings left: `area-exact`.
 -- Assumes nothing.
-use Rattle.std.proofs.Common.{◌≡◌, refl, sym, ap, ◌∙◌, subst, true, false, List, [], ◌∷◌, ◌++◌, map, ℕ, zero, suc, ◌+◌, ◌*◌, ◌≤◌, ◌<◌, zero-le, suc-le-suc, le_of_suc-le-suc, not-suc-le-zero, arith, le-leb, eqb-true, eqb, length, get_or, take, replicate, set, take-suc, length-take-le, get_or-take, if◌then◌else◌}
-use borrow.Author.Tests.{eqb-false}
+use Rattle.whole.proofs.Words.{◌≡◌, refl, sym, ap, ◌∙◌, subst, true, false, List, [], ◌∷◌, ◌++◌, map, ℕ, zero, suc, ◌+◌, ◌*◌, ◌≤◌, ◌<◌, zero-le, suc-le-suc, le_of_suc-le-suc, not-suc-le-zero, arith, le-leb, eqb-true, eqb, length, get_or, take, replicate, set, take-suc, length-take-le, get_or-take, if◌then◌else◌, eqb-false, Entry, entry, cases, true≢, and_intro, at_all, once-of, put-nil, set-put, Counts}
 use lib.ListN.{length-replicate, get_or-replicate, length-map, get_or-map}
 use lib.Seq.{take-length, drop-length, set-get_or}
 use Rattle.storage.specs.Lists.Base.{concat_map}
-use Rattle.storage.specs.Lists.Map.{Entry, entry}
-use Rattle.storage.proofs.ListsLaws.MapLaws.{cases, true≢, and_intro}
-use Rattle.storage.proofs.ListsLaws.Places.{at_all, once-of}
 use Rattle.storage.specs.Rows.Part.{put}
-use Rattle.storage.proofs.RowsLaws.Parts.{put-nil, set-put}
-use Rattle.protocol.specs.State.{Counts}
 use Rattle.protocol.specs.Alike.{same_list}
 use Rattle.whole.specs.Held.{whole_block}
 use Rattle.whole.specs.States.Kept.{Kept, keep}

@@ -1,10 +1,9 @@
 -- Lists of which each has a part of one length, one after the other: the rows and the blocks of an area.
 -- Assumes nothing.
-use Rattle.std.proofs.Common.{◌≡◌, sym, ap, ◌∙◌, List, [], ◌∷◌, ◌++◌, ℕ, zero, suc, ◌+◌, ◌*◌, ◌≤◌, ◌<◌, zero-le, suc-le-suc, mul-zero, mul-suc, mul-le-mul_left, le_of_suc-le-suc, not-suc-le-zero, arith, length, get_or, length-append, take_at, drop_at}
+use Rattle.whole.proofs.Words.{◌≡◌, sym, ap, ◌∙◌, List, [], ◌∷◌, ◌++◌, ℕ, zero, suc, ◌+◌, ◌*◌, ◌≤◌, ◌<◌, zero-le, suc-le-suc, mul-zero, mul-suc, mul-le-mul_left, le_of_suc-le-suc, not-suc-le-zero, arith, length, get_or, length-append, take_at, drop_at, put_right}
 use lib.Seq.{drop-append-add, drop-nil}
 use Rattle.storage.specs.Lists.Base.{concat_map}
 use Rattle.storage.specs.Rows.Part.{part, put}
-use Rattle.storage.proofs.RowsLaws.Parts.{put_right}
 
 module _ {A : Type 0} (d : A) (f : A → List ℕ) (s : ℕ) where
   -- each has a part of s bytes

@@ -1,15 +1,10 @@
 -- `by_link::next_of`: no note from `from` up to i is for the link.
-use Rattle.std.proofs.Common.{◌≡◌, refl, sym, ap, ◌∙◌, true, false, List, ℕ, ◌<◌, arith, eq-eqb, ne_eqb, length, drop, get_or, rules}
+use Rattle.alike.proofs.Words.{◌≡◌, refl, sym, ap, ◌∙◌, true, false, List, ℕ, ◌<◌, arith, eq-eqb, ne_eqb, length, drop, get_or, rules, Entry, keys, State, Note, shown, peer_at, note, notes_of, count_of}
 use lib.ListN.{length-map}
 use Rattle.storage.specs.Lists.Base.{filter}
-use Rattle.storage.specs.Lists.Map.{Entry, keys}
 use Rattle.time_cache.proofs.Orders.{up_of}
 use Rattle.protocol.specs.Links.{Mark}
-use Rattle.protocol.specs.State.{State, Note}
 use Rattle.protocol.specs.Push.{for_peer}
-use Rattle.block.specs.Views.{shown}
-use Rattle.block.specs.LinkSteps.{peer_at}
-use Rattle.block.specs.NoteSteps.{note, notes_of, count_of}
 use Rattle.block.specs.declared.note.NoteTable.{NoteTable}
 use Rattle.block.specs.declared.panel.View.{View}
 use Rattle.block.proofs.NoteLaws.{count-notes}

@@ -1,10 +1,7 @@
 -- `by_link::next_of`: no note from `from` up to i is for the link.
-use Rattle.std.proofs.Common.{◌≡◌, ◌≤◌, drop}
+use Rattle.alike.proofs.Words.{◌≡◌, ◌≤◌, drop, shown, peer_at, notes_of}
 use Rattle.storage.specs.Lists.Base.{filter}
 use Rattle.protocol.specs.Push.{for_peer}
-use Rattle.block.specs.Views.{shown}
-use Rattle.block.specs.LinkSteps.{peer_at}
-use Rattle.block.specs.NoteSteps.{notes_of}
 use Rattle.alike.proofs.by_link.next_of.Given as goal
 
 abbrev pub invariant-loop-i : goal.invariant-loop-i

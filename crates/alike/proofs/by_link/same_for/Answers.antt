@@ -1,11 +1,5 @@
 -- `by_link::same_for`: the notes before the two cursors agree. The measure is n - i.
-use Rattle.std.proofs.Common.{not, ◌≡◌, sym, ap, ◌∙◌, subst, List, ℕ, ◌+◌, ◌<◌, arith, leb, length, get_or}
-use Rattle.whole.proofs.Tests.{no, yes}
-use Rattle.protocol.specs.State.{State, Note}
-use Rattle.protocol.specs.Alike.{same_note}
-use Rattle.block.specs.Views.{shown}
-use Rattle.block.specs.LinkSteps.{peer_at}
-use Rattle.block.specs.NoteSteps.{note, notes_of, count_of}
+use Rattle.alike.proofs.Words.{not, ◌≡◌, sym, ap, ◌∙◌, subst, List, ℕ, ◌+◌, ◌<◌, arith, leb, length, get_or, no, yes, State, Note, same_note, shown, peer_at, note, notes_of, count_of}
 use Rattle.block.specs.declared.note.Note.{Note as LinkNote}
 use Rattle.block.proofs.NoteLaws.{count-notes}
 use Rattle.alike.specs.NoteTable.{NextOf}

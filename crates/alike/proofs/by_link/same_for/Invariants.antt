@@ -1,8 +1,5 @@
 -- `by_link::same_for`: the notes before the two cursors agree. The measure is n - i.
-use Rattle.std.proofs.Common.{◌-◌}
-use Rattle.block.specs.Views.{shown}
-use Rattle.block.specs.LinkSteps.{peer_at}
-use Rattle.block.specs.NoteSteps.{notes_of}
+use Rattle.alike.proofs.Words.{◌-◌, shown, peer_at, notes_of}
 use Rattle.alike.proofs.ByLink.{Cursors}
 use Rattle.alike.proofs.by_link.same_for.Given as goal
 

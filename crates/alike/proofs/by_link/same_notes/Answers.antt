@@ -1,13 +1,7 @@
 -- `by_link::same_notes`: the notes of the first l links agree.
-use Rattle.std.proofs.Common.{not, ◌≡◌, sym, ap, ◌∙◌, true, List, ℕ, ◌<◌, arith, below_more, length, get_or, rules}
+use Rattle.alike.proofs.Words.{not, ◌≡◌, sym, ap, ◌∙◌, true, List, ℕ, ◌<◌, arith, below_more, length, get_or, rules, no, yes, Entry, Note, shown, peer_at, notes_of}
 use lib.ListN.{length-map}
-use Rattle.whole.proofs.Tests.{no, yes}
-use Rattle.storage.specs.Lists.Map.{Entry}
 use Rattle.protocol.specs.Links.{Mark}
-use Rattle.protocol.specs.State.{Note}
-use Rattle.block.specs.Views.{shown}
-use Rattle.block.specs.LinkSteps.{peer_at}
-use Rattle.block.specs.NoteSteps.{notes_of}
 use Rattle.alike.specs.NoteTable.{same_for}
 use Rattle.alike.proofs.ByLink.{notes-no, notes-yes}
 use Rattle.alike.proofs.by_link.same_notes.Goals as goal

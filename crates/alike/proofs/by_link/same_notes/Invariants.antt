@@ -1,8 +1,5 @@
 -- `by_link::same_notes`: the notes of the first l links agree.
-use Rattle.std.proofs.Common.{◌≡◌, true, ℕ, ◌≤◌, ◌<◌, length}
-use Rattle.block.specs.Views.{shown}
-use Rattle.block.specs.LinkSteps.{peer_at}
-use Rattle.block.specs.NoteSteps.{notes_of}
+use Rattle.alike.proofs.Words.{◌≡◌, true, ℕ, ◌≤◌, ◌<◌, length, shown, peer_at, notes_of}
 use Rattle.alike.specs.NoteTable.{same_for}
 use Rattle.alike.proofs.by_link.same_notes.Given as goal
 

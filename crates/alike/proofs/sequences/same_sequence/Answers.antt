@@ -1,7 +1,5 @@
 -- `sequences::same_sequence`: the first j elements agree.
-use Rattle.std.proofs.Common.{ap, not, ◌≡◌, sym, ◌∙◌, List, ℕ, ◌<◌, length, get_or, below_more, arith, rules}
-use Rattle.whole.proofs.Tests.{no, yes}
-use Rattle.block.specs.Views.{shown}
+use Rattle.alike.proofs.Words.{ap, not, ◌≡◌, sym, ◌∙◌, List, ℕ, ◌<◌, length, get_or, below_more, arith, rules, no, yes, shown}
 use Rattle.alike.specs.Elements.{Element, element, same_element, sequence_of}
 use Rattle.alike.proofs.Lists.{list-yes, list-no, list_length}
 use Rattle.alike.proofs.sequences.same_sequence.Invariants.{Agree}

@@ -1,6 +1,5 @@
 -- `sequences::same_sequence`: the first j elements agree.
-use Rattle.std.proofs.Common.{ℕ, ◌≤◌, ◌<◌, ◌≡◌, true, List, get_or}
-use Rattle.block.specs.Views.{shown}
+use Rattle.alike.proofs.Words.{ℕ, ◌≤◌, ◌<◌, ◌≡◌, true, List, get_or, shown}
 use Rattle.alike.specs.Elements.{Element, element, same_element, sequence_of}
 use Rattle.alike.proofs.sequences.same_sequence.Given as goal
 

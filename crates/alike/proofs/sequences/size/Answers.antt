@@ -1,8 +1,7 @@
 -- `sequences::size`: the number that the header has, or the count of the list.
-use Rattle.std.proofs.Common.{sym, ap, ◌∙◌, length}
+use Rattle.alike.proofs.Words.{sym, ap, ◌∙◌, length, shown}
 use lib.ListN.{length-map}
 use Rattle.alike.specs.Elements.{expiry_element, sequence_of}
-use Rattle.block.specs.Views.{shown}
 use Rattle.block.proofs.CachesLaws.ReceivedLaws.{count-received-rows}
 use Rattle.block.proofs.CachesLaws.GraftedLaws.{count-grafted-rows}
 use Rattle.block.proofs.CachesLaws.CachedLaws.{count-cached-rows}

@@ -1,6 +1,5 @@
 -- `tables::rows_of`: the number that the header has.
-use Rattle.std.proofs.Common.{sym, ap, ◌∙◌}
-use Rattle.block.specs.Views.{shown}
+use Rattle.alike.proofs.Words.{sym, ap, ◌∙◌, shown}
 use Rattle.block.proofs.LinkLaws.{count-links}
 use Rattle.block.proofs.MissingLaws.{count-missing}
 use Rattle.block.proofs.TimerLaws.{count-timers}

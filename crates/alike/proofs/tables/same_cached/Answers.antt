@@ -1,15 +1,11 @@
 -- `tables::same_cached`: key and expiry, round, content.
-use Rattle.std.proofs.Common.{◌≡◌, refl, sym, ◌∙◌, Bool, true, false, ◌&&◌, eqb}
-use Rattle.block.specs.Views.{shown}
-use Rattle.protocol.specs.Alike.{same_list, same_cached}
+use Rattle.alike.proofs.Words.{◌≡◌, refl, sym, ◌∙◌, Bool, true, false, ◌&&◌, eqb, shown, same_list, Entry, Timed, Cached}
+use Rattle.protocol.specs.Alike.{same_cached}
 use Rattle.alike.specs.Rows.{same_entry, same_timed, cached_entry}
 use Rattle.alike.specs.Elements.{same_element}
 use Rattle.alike.proofs.BlockReads.{key_of, key-read}
 use Rattle.alike.proofs.Entries.{entry-same, asked, no_cached, cached-named}
 use Rattle.block.specs.TimeCaches.{cached_cache}
-use Rattle.storage.specs.Lists.Map.{Entry}
-use Rattle.time_cache.specs.TimeCache.{Timed}
-use Rattle.protocol.specs.State.{Cached}
 use Rattle.alike.proofs.tables.same_cached.Goals as goal
 use Rattle.alike.proofs.tables.same_cached.Goals.{Joined-same_key, then-same_key, else-same_key}
 
@@ -42,8 +38,8 @@ module _ (d : Joined-same_key) where
   key-told : d.same_key.result ≡ E
   key-told =
       let a = d.args in
-      let x = key-read d.table.result a.x.now.block.now (shown a.x.now).cache (d.table.ensures.stands a.x.now.block.now a.x.now.sound) a.i no_cached d.requires.0 in
-      let y = key-read d.table-2.result a.y.now.block.now (shown a.y.now).cache (d.table-2.ensures.stands a.y.now.block.now a.y.now.sound) a.i no_cached d.requires.1 in
+      let x = key-read d.table.result a.x.now.block.now (shown a.x.now).cache d.table.ensures.stands a.i no_cached d.requires.0 in
+      let y = key-read d.table-2.result a.y.now.block.now (shown a.y.now).cache d.table-2.ensures.stands a.i no_cached d.requires.1 in
       d.same_key.ensures ∙ (λ k. same_element (x k) (y k))
 
   two-told : d.if-same_key.value ≡ (E && R)
@@ -62,10 +58,10 @@ module _ (d : Joined-same_key) where
   told = swap E R M ∙ sym (entry-same same_cached p q)
 
 pub same_key-requires-clause-lies : goal.same_key-requires-clause-lies
-same_key-requires-clause-lies c = let a = c.args in asked c.table.result (cached_cache a.x.now.head.now) a.x.now.block.now (shown a.x.now).cache a.i (c.table.ensures.stands a.x.now.block.now a.x.now.sound) c.table.ensures.at (cached-named a.x.now) c.requires.0
+same_key-requires-clause-lies c = let a = c.args in asked c.table.result (cached_cache a.x.now.head.now) a.x.now.block.now (shown a.x.now).cache a.i c.table.ensures.stands c.table.ensures.at (cached-named a.x.now) c.requires.0
 
 pub same_key-requires-clause-lies_2 : goal.same_key-requires-clause-lies_2
-same_key-requires-clause-lies_2 c = let a = c.args in asked c.table-2.result (cached_cache a.y.now.head.now) a.y.now.block.now (shown a.y.now).cache a.i (c.table-2.ensures.stands a.y.now.block.now a.y.now.sound) c.table-2.ensures.at (cached-named a.y.now) c.requires.1
+same_key-requires-clause-lies_2 c = let a = c.args in asked c.table-2.result (cached_cache a.y.now.head.now) a.y.now.block.now (shown a.y.now).cache a.i c.table-2.ensures.stands c.table-2.ensures.at (cached-named a.y.now) c.requires.1
 
 pub returns-then-cached_round : goal.returns-then-cached_round
 returns-then-cached_round c =

@@ -1,17 +1,13 @@
 -- `tables::same_grafted`: key and expiry, `first`, `kept`, peers.
-use Rattle.std.proofs.Common.{◌≡◌, ℕ, refl, sym, ◌∙◌, Bool, true, false, ◌&&◌, eqb, Option, Some, None}
+use Rattle.alike.proofs.Words.{◌≡◌, ℕ, refl, sym, ◌∙◌, Bool, true, false, ◌&&◌, eqb, Option, Some, None, shown, same_map, same_hop, Entry, Timed, Grafts}
 use Rattle.std.specs.Option.{option_eq}
-use Rattle.block.specs.Views.{shown}
-use Rattle.protocol.specs.Alike.{same_map, same_option, same_hop, same_grafts}
+use Rattle.protocol.specs.Alike.{same_option, same_grafts}
 use Rattle.alike.proofs.Lists.{list_grafts}
 use Rattle.alike.specs.Elements.{same_element}
 use Rattle.alike.specs.Rows.{same_entry, same_timed}
 use Rattle.alike.proofs.BlockReads.{key_of, key-read}
 use Rattle.alike.proofs.Entries.{entry-same, asked, no_grafted, grafted-named}
 use Rattle.block.specs.TimeCaches.{grafted_cache}
-use Rattle.storage.specs.Lists.Map.{Entry}
-use Rattle.time_cache.specs.TimeCache.{Timed}
-use Rattle.protocol.specs.State.{Grafts}
 use Rattle.block.specs.Caches.GraftSteps.{grafted_at}
 use Rattle.alike.proofs.tables.same_grafted.Goals as goal
 use Rattle.alike.proofs.tables.same_grafted.Goals.{Joined-same_first, then-same_key, else-same_key, then-same_first, else-same_first}
@@ -54,8 +50,8 @@ module _ (d : Joined-same_first) where
   key-told : d.same_key.result ≡ E
   key-told =
       let a = d.args in
-      let x = key-read d.table.result a.x.now.block.now (shown a.x.now).grafted (d.table.ensures.stands a.x.now.block.now a.x.now.sound) a.i no_grafted d.requires.0 in
-      let y = key-read d.table-2.result a.y.now.block.now (shown a.y.now).grafted (d.table-2.ensures.stands a.y.now.block.now a.y.now.sound) a.i no_grafted d.requires.1 in
+      let x = key-read d.table.result a.x.now.block.now (shown a.x.now).grafted d.table.ensures.stands a.i no_grafted d.requires.0 in
+      let y = key-read d.table-2.result a.y.now.block.now (shown a.y.now).grafted d.table-2.ensures.stands a.i no_grafted d.requires.1 in
       d.same_key.ensures ∙ (λ k. same_element (x k) (y k))
 
   two-told : d.if-same_key.value ≡ (E && F)
@@ -87,10 +83,10 @@ module _ (d : Joined-same_first) where
   told = assoc E F K M ∙ sym (entry-same same_grafts p q)
 
 pub same_key-requires-clause-lies : goal.same_key-requires-clause-lies
-same_key-requires-clause-lies c = let a = c.args in asked c.table.result (grafted_cache a.x.now.head.now) a.x.now.block.now (shown a.x.now).grafted a.i (c.table.ensures.stands a.x.now.block.now a.x.now.sound) c.table.ensures.at (grafted-named a.x.now) c.requires.0
+same_key-requires-clause-lies c = let a = c.args in asked c.table.result (grafted_cache a.x.now.head.now) a.x.now.block.now (shown a.x.now).grafted a.i c.table.ensures.stands c.table.ensures.at (grafted-named a.x.now) c.requires.0
 
 pub same_key-requires-clause-lies_2 : goal.same_key-requires-clause-lies_2
-same_key-requires-clause-lies_2 c = let a = c.args in asked c.table-2.result (grafted_cache a.y.now.head.now) a.y.now.block.now (shown a.y.now).grafted a.i (c.table-2.ensures.stands a.y.now.block.now a.y.now.sound) c.table-2.ensures.at (grafted-named a.y.now) c.requires.1
+same_key-requires-clause-lies_2 c = let a = c.args in asked c.table-2.result (grafted_cache a.y.now.head.now) a.y.now.block.now (shown a.y.now).grafted a.i c.table-2.ensures.stands c.table-2.ensures.at (grafted-named a.y.now) c.requires.1
 
 pub returns-then-eq : goal.returns-then-eq
 returns-then-eq c =

@@ -1,15 +1,12 @@
 -- `tables::same_link`: peer and mark; two marks are equal exactly if those of the definitions are.
-use Rattle.std.proofs.Common.{◌≡◌, ℕ, refl, sym, ap, ◌∙◌, Bool, ◌&&◌, eqb, eq-eqb, ne_eqb}
+use Rattle.alike.proofs.Words.{◌≡◌, ℕ, refl, sym, ap, ◌∙◌, Bool, ◌&&◌, eqb, eq-eqb, ne_eqb, State, shown, numbered_link, mark_value, link_at}
 use denote.Enum.Bare.{sameb}
-use Rattle.protocol.specs.State.{State}
-use Rattle.block.specs.Views.{shown, numbered_link}
 use Rattle.block.specs.declared.links.NumberedLink.{NumberedLink}
 use Rattle.protocol.specs.Alike.{same_mark}
 use Rattle.alike.proofs.Lists.{and-no-left}
 use Rattle.block.specs.contracts.links.Mark.{the_type}
 use Rattle.block.specs.declared.links.Mark.{Mark}
 use Rattle.block.specs.declared.links.Mark.TheVariants.{Eager, Lazy, Quiet}
-use Rattle.block.specs.LinkSteps.{mark_value, link_at}
 use Rattle.alike.proofs.tables.same_link.Goals as goal
 
 same_marks : (x y : Mark) → sameb the_type x y ≡ same_mark (mark_value x) (mark_value y)

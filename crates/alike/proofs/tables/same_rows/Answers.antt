@@ -1,7 +1,5 @@
 -- `tables::same_rows`: the first i rows agree.
-use Rattle.std.proofs.Common.{ap, not, ◌≡◌, sym, ◌∙◌, true, ℕ, below_more, arith, rules}
-use Rattle.whole.proofs.Tests.{no, yes}
-use Rattle.block.specs.Views.{shown}
+use Rattle.alike.proofs.Words.{ap, not, ◌≡◌, sym, ◌∙◌, true, ℕ, below_more, arith, rules, no, yes, shown}
 use Rattle.alike.specs.Rows.{same_row}
 use Rattle.alike.proofs.Entries.{rows-yes, rows-no, rows-length}
 use Rattle.alike.proofs.tables.same_rows.Goals as goal

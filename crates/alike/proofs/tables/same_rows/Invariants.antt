@@ -1,6 +1,5 @@
 -- `tables::same_rows`: the first i rows agree.
-use Rattle.std.proofs.Common.{◌≡◌, true, ℕ, ◌≤◌, ◌<◌}
-use Rattle.block.specs.Views.{shown}
+use Rattle.alike.proofs.Words.{◌≡◌, true, ℕ, ◌≤◌, ◌<◌, shown}
 use Rattle.alike.specs.Rows.{same_row}
 use Rattle.alike.proofs.tables.same_rows.Given as goal
 

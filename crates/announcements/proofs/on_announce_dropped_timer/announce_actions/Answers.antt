@@ -1,12 +1,6 @@
 -- `announce_actions` meets its contract: dispatch if a queue stands, then itself if a record does.
-use Rattle.std.proofs.Common.{◌≡◌, ◌++◌, ◌∙◌, sym, ap, List, ℕ, false, Bool}
-use Rattle.storage.specs.Lists.Base.{concat_map}
-use Rattle.postcard.specs.Message.{action_bytes}
-use Rattle.decide.specs.RecordGrowth.{announce_action}
-use Rattle.decide.specs.Settled.{settled}
+use Rattle.announcements.proofs.Words.{◌≡◌, ◌++◌, ◌∙◌, sym, ap, List, ℕ, false, Bool, concat_map, action_bytes, announce_action, settled, after_append, shown}
 use Rattle.wire.specs.Encode.Intake.{after}
-use Rattle.wire.proofs.EncodeLaws.IntakeLaws.{after_append}
-use Rattle.block.specs.Views.{shown}
 use Rattle.announcements.specs.OnAnnounceDroppedTimer.{announce_bytes}
 use Rattle.announcements.proofs.OnAnnounceDroppedTimerLaws.{stands-bytes, queue_bytes, none-after}
 use Rattle.announcements.proofs.on_announce_dropped_timer.announce_actions.Goals as goal

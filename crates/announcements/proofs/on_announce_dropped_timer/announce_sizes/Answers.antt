@@ -1,15 +1,5 @@
 -- `announce_sizes` meets its contract: the settled sizes, with what moves and what stays.
-use Rattle.std.proofs.Common.{◌+◌, ◌<◌, ◌≤◌, ◌∙◌, sym, ap, length, get_or, arith, List, [], ◌∷◌, not, ltb-true, ltb-false, length-append}
-use borrow.Author.Tests.{not-true, not-false}
-use Rattle.storage.specs.Rows.Ident.{id_of}
-use Rattle.storage.specs.Lists.Map.{keys}
-use Rattle.protocol.specs.State.{State, Note}
-use Rattle.protocol.specs.Ticks.{oldest, younger}
-use Rattle.block.specs.NoteSteps.{note}
-use Rattle.block.proofs.NoteLaws.{count-queue, count-dropped}
-use Rattle.block.specs.Views.{shown}
-use Rattle.steps.specs.Shared.{sizes_value}
-use Rattle.block.proofs.ViewLaws.{links-few}
+use Rattle.announcements.proofs.Words.{◌+◌, ◌<◌, ◌≤◌, ◌∙◌, sym, ap, length, get_or, arith, List, [], ◌∷◌, not, ltb-true, ltb-false, length-append, not-true, not-false, id_of, keys, State, Note, oldest, younger, note, count-queue, count-dropped, shown, sizes_value, links-few}
 use Rattle.announcements.proofs.AnnounceLaws.Turns.{Read, moves, moves-alone, stays, stays-alone}
 use Rattle.announcements.proofs.OnAnnounceDroppedTimerLaws.{still, held_then, entry, passing-start, passing-skip, passing-more, link-low, seen-small, still-not, passed-few, oldest-start, younger-start, sized-end, queued-of}
 use Rattle.announcements.proofs.on_announce_dropped_timer.announce_sizes.Goals as goal

@@ -1,7 +1,5 @@
 -- `announce_sizes`: the rows passed are counted, those that move and those that stay.
-use Rattle.std.proofs.Common.{◌≡◌, [], length}
-use Rattle.protocol.specs.Ticks.{oldest, younger}
-use Rattle.block.specs.Views.{shown}
+use Rattle.announcements.proofs.Words.{◌≡◌, [], length, oldest, younger, shown}
 use Rattle.announcements.proofs.OnAnnounceDroppedTimerLaws.{still, held_then, Passing}
 use Rattle.announcements.proofs.on_announce_dropped_timer.announce_sizes.Given as goal
 

@@ -1,16 +1,5 @@
 -- `move_oldest` meets its contract: row by row, and the record cut behind what stays.
-use Rattle.std.proofs.Common.{◌≡◌, ◌<◌, ◌≤◌, ◌∙◌, sym, ap, refl, length, get_or, arith, List, [], not, false, true, Bool, subst, ltb-true, ltb-false}
-use borrow.Author.Tests.{not-true, not-false}
-use Rattle.storage.specs.Rows.Ident.{id_of}
-use Rattle.storage.specs.Lists.Map.{keys}
-use Rattle.time_cache.specs.TimeCache.{holds}
-use Rattle.protocol.specs.State.{State, Note}
-use Rattle.protocol.specs.Ticks.{younger}
-use Rattle.block.specs.NoteSteps.{note, NoteOf}
-use Rattle.block.proofs.NoteLaws.{count-dropped}
-use Rattle.block.specs.Panels.{state}
-use Rattle.block.proofs.PanelLaws.{same-state}
-use Rattle.block.proofs.ViewLaws.{links-few}
+use Rattle.announcements.proofs.Words.{◌≡◌, ◌<◌, ◌≤◌, ◌∙◌, sym, ap, refl, length, get_or, arith, List, [], not, false, true, Bool, subst, ltb-true, ltb-false, not-true, not-false, id_of, keys, holds, State, Note, younger, note, NoteOf, count-dropped, state, same-state, links-few}
 use Rattle.announcements.proofs.AnnounceLaws.Turns.{Read}
 use Rattle.announcements.proofs.OnAnnounceDroppedTimerLaws.{held_now, entry, passing-start, passing-skip, passing-more, link-low, seen-small, still-not, younger-start, move-start, kept-few, same-rows, same-links, cached-in, row-in, move-skip, move-room, move-take, take-kept, keep-room, move-keep, keep-kept, move-end}
 use Rattle.announcements.proofs.on_announce_dropped_timer.move_oldest.Goals as goal

@@ -1,8 +1,5 @@
 -- `move_oldest`: the rows passed are counted; the oldest of those that are cached stand behind the queue, the younger in the record's first rows.
-use Rattle.std.proofs.Common.{◌≡◌, [], length}
-use Rattle.time_cache.specs.TimeCache.{holds}
-use Rattle.protocol.specs.Ticks.{younger}
-use Rattle.block.specs.Panels.{state, Goes}
+use Rattle.announcements.proofs.Words.{◌≡◌, [], length, holds, younger, state, Goes}
 use Rattle.announcements.proofs.OnAnnounceDroppedTimerLaws.{still, Passing, passed_by}
 use Rattle.announcements.proofs.on_announce_dropped_timer.move_oldest.Given as goal
 

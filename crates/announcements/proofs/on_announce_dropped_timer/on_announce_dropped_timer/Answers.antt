@@ -1,8 +1,5 @@
 -- `on_announce_dropped_timer` meets its contract: the identifiers move, then the two flags.
-use Rattle.std.proofs.Common.{◌≡◌, ◌∙◌, ap, length, arith, true, false}
-use Rattle.protocol.specs.State.{State, with_announce_scheduled, with_dispatch_scheduled}
-use Rattle.block.proofs.NoteLaws.{count-queue}
-use Rattle.block.specs.Panels.{state}
+use Rattle.announcements.proofs.Words.{◌≡◌, ◌∙◌, ap, length, arith, true, false, State, with_announce_scheduled, with_dispatch_scheduled, count-queue, state}
 use Rattle.block.specs.NoteSteps.{standing}
 use Rattle.block.specs.declared.panel.Panel.{Panel}
 use Rattle.announcements.specs.Announce.Moves.{moved_state}

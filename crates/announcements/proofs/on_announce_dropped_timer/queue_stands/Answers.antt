@@ -1,7 +1,5 @@
 -- `queue_stands` meets its contract: a queue before, or the first row that is cached then.
-use Rattle.std.proofs.Common.{◌∙◌, sym, arith}
-use Rattle.block.proofs.NoteLaws.{count-queue, count-dropped}
-use Rattle.block.specs.Views.{shown}
+use Rattle.announcements.proofs.Words.{◌∙◌, sym, arith, count-queue, count-dropped, shown}
 use Rattle.announcements.proofs.OnAnnounceDroppedTimerLaws.{held_then, still-start, still-not, still-some, queue-before, queue-some, queue-none}
 use Rattle.announcements.proofs.on_announce_dropped_timer.queue_stands.Goals as goal
 

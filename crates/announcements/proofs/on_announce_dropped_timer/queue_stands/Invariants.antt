@@ -1,6 +1,5 @@
 -- `queue_stands`: none of the rows passed is cached then.
-use Rattle.std.proofs.Common.{◌≡◌, []}
-use Rattle.block.specs.Views.{shown}
+use Rattle.announcements.proofs.Words.{◌≡◌, [], shown}
 use Rattle.announcements.proofs.OnAnnounceDroppedTimerLaws.{still, held_then}
 use Rattle.announcements.proofs.on_announce_dropped_timer.queue_stands.Given as goal
 

@@ -1,14 +1,5 @@
 -- `record_stands` meets its contract: the first row that is left.
-use Rattle.std.proofs.Common.{◌+◌, ◌<◌, ◌≤◌, ◌∙◌, sym, ap, length, get_or, arith, [], ◌∷◌, not, ltb-true, ltb-false, length-append}
-use borrow.Author.Tests.{not-true, not-false}
-use Rattle.storage.specs.Rows.Ident.{id_of}
-use Rattle.storage.specs.Lists.Map.{keys}
-use Rattle.protocol.specs.State.{State}
-use Rattle.protocol.specs.Ticks.{younger}
-use Rattle.block.specs.NoteSteps.{note}
-use Rattle.block.proofs.NoteLaws.{count-dropped}
-use Rattle.block.specs.Views.{shown}
-use Rattle.block.proofs.ViewLaws.{links-few}
+use Rattle.announcements.proofs.Words.{◌+◌, ◌<◌, ◌≤◌, ◌∙◌, sym, ap, length, get_or, arith, [], ◌∷◌, not, ltb-true, ltb-false, length-append, not-true, not-false, id_of, keys, State, younger, note, count-dropped, shown, links-few}
 use Rattle.announcements.proofs.AnnounceLaws.Turns.{Read, moves-alone, stays}
 use Rattle.announcements.proofs.OnAnnounceDroppedTimerLaws.{still, held_then, entry, passing-start, passing-skip, passing-more, link-low, seen-small, still-not, record-none, record-some, record-end, younger-start}
 use Rattle.announcements.proofs.on_announce_dropped_timer.record_stands.Goals as goal

@@ -1,7 +1,5 @@
 -- `record_stands`: the rows passed are counted, and none of them is left.
-use Rattle.std.proofs.Common.{◌≡◌, []}
-use Rattle.protocol.specs.Ticks.{younger}
-use Rattle.block.specs.Views.{shown}
+use Rattle.announcements.proofs.Words.{◌≡◌, [], younger, shown}
 use Rattle.announcements.proofs.OnAnnounceDroppedTimerLaws.{still, held_then, Passing}
 use Rattle.announcements.proofs.on_announce_dropped_timer.record_stands.Given as goal
 

@@ -1,13 +1,6 @@
 -- `dispatch_actions` meets its contract: of an empty queue nothing is sent.
-use Rattle.std.proofs.Common.{◌≡◌, ℕ, List, [], sym, refl, ap, ◌∙◌, arith}
-use Rattle.std.proofs.lemmas.List.{nil_from_length}
-use Rattle.protocol.specs.State.{State}
-use Rattle.decide.specs.Settled.{settled}
+use Rattle.announcements.proofs.Words.{◌≡◌, ℕ, List, [], sym, refl, ap, ◌∙◌, arith, nil_from_length, State, settled, after_nil, rooms_of, shown, settled-as}
 use Rattle.wire.specs.Encode.Intake.{after}
-use Rattle.wire.proofs.EncodeLaws.IntakeLaws.{after_nil}
-use Rattle.steps.specs.Calls.{rooms_of}
-use Rattle.block.specs.Views.{shown}
-use Rattle.steps.proofs.AtRestLaws.{settled-as}
 use Rattle.announcements.proofs.OnDispatchLaws.SendLaws.{no-sends}
 use Rattle.announcements.proofs.on_dispatch_timer.dispatch_actions.Goals as goal
 

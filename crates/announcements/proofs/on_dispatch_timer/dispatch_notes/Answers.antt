@@ -1,9 +1,6 @@
 -- `dispatch_notes` meets its contract: they are what is noted.
-use Rattle.std.proofs.Common.{length, ap, ◌∙◌, arith, length-append}
+use Rattle.announcements.proofs.Words.{length, ap, ◌∙◌, arith, length-append, note_at, shown, same_dropped}
 use lib.ListN.{length-map}
-use Rattle.block.specs.NoteSteps.{note_at}
-use Rattle.block.specs.Views.{shown}
-use Rattle.steps.proofs.AtRestLaws.{same_dropped}
 use Rattle.announcements.specs.QueuedRows.{notes_at}
 use Rattle.announcements.proofs.OnDispatchLaws.StateLaws.{settled-dropped}
 use Rattle.announcements.proofs.on_dispatch_timer.dispatch_notes.Goals as goal

@@ -1,10 +1,5 @@
 -- `dispatch_sizes` meets its contract: the queue is empty, and the record grows.
-use Rattle.std.proofs.Common.{arith, ap, sym, ◌∙◌, ◌≡◌, ◌+◌, ℕ, length}
-use Rattle.decide.specs.Settled.{settled}
-use Rattle.decide.specs.Sizes.{Sizes, sizes_of, sized_queued, sized_recorded}
-use Rattle.block.specs.Views.{shown}
-use Rattle.steps.proofs.AtRestLaws.{same_dropped}
-use Rattle.block.proofs.NoteRowLaws.{record-few, queue-few}
+use Rattle.announcements.proofs.Words.{arith, ap, sym, ◌∙◌, ◌≡◌, ◌+◌, ℕ, length, settled, Sizes, sizes_of, sized_queued, sized_recorded, shown, same_dropped, record-few, queue-few}
 use Rattle.announcements.specs.OnDispatchTimer.{after_dispatch}
 use Rattle.announcements.specs.QueuedRows.{held_then}
 use Rattle.announcements.proofs.OnDispatchLaws.BatchLaws.{none-noted}

@@ -1,12 +1,6 @@
 -- `note_back` meets its contract: what was found is what the record takes.
-use Rattle.std.proofs.Common.{◌≡◌, ℕ, ◌++◌, length, ap, sym, ◌∙◌, arith, Bool, List, subst, length-append}
+use Rattle.announcements.proofs.Words.{◌≡◌, ℕ, ◌++◌, length, ap, sym, ◌∙◌, arith, Bool, List, subst, length-append, State, Note, cached_in, recorded_state, state, note_at, same-state}
 use lib.ListN.{length-map}
-use Rattle.protocol.specs.State.{State, Note}
-use Rattle.decide.specs.RecordGrowth.{cached_in}
-use Rattle.decide.specs.StateAfter.{recorded_state}
-use Rattle.block.specs.Panels.{state}
-use Rattle.block.specs.NoteSteps.{note_at}
-use Rattle.block.proofs.PanelLaws.{same-state}
 use Rattle.announcements.specs.QueuedRows.{held_then, notes_at}
 use Rattle.announcements.proofs.OnDispatchLaws.StateLaws.{noted_by, noted-fits, held-now}
 use Rattle.announcements.proofs.on_dispatch_timer.note_back.Goals as goal

@@ -1,7 +1,5 @@
 -- `note_rows` meets its contract.
-use Rattle.std.proofs.Common.{◌≤◌, length, ap, ◌∙◌, arith}
-use Rattle.protocol.specs.State.{State}
-use Rattle.block.specs.Panels.{state}
+use Rattle.announcements.proofs.Words.{◌≤◌, length, ap, ◌∙◌, arith, State, state}
 use Rattle.block.specs.NoteSteps.{standing}
 use Rattle.announcements.proofs.OnDispatchLaws.StateLaws.{first-all}
 use Rattle.announcements.proofs.on_dispatch_timer.note_rows.Goals as goal

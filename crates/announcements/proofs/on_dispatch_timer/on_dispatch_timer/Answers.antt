@@ -1,11 +1,6 @@
 -- `on_dispatch_timer` meets its contract.
-use Rattle.std.proofs.Common.{ℕ, ◌<◌, ◌≤◌, length, get_or, ap, sym, ◌∙◌, false, [], subst}
-use Rattle.protocol.specs.State.{State, with_queue, with_dispatch_scheduled}
-use Rattle.decide.specs.RecordGrowth.{cached_in}
-use Rattle.block.specs.Panels.{state}
+use Rattle.announcements.proofs.Words.{ℕ, ◌<◌, ◌≤◌, length, get_or, ap, sym, ◌∙◌, false, [], subst, State, with_queue, with_dispatch_scheduled, cached_in, state, same-state, queue-few}
 use Rattle.block.specs.declared.panel.Panel.{Panel}
-use Rattle.block.proofs.PanelLaws.{same-state}
-use Rattle.block.proofs.NoteRowLaws.{queue-few}
 use Rattle.announcements.proofs.OnDispatchLaws.BatchLaws.{none-noted}
 use Rattle.announcements.proofs.OnDispatchLaws.StateLaws.{state-after, none-state}
 use Rattle.announcements.proofs.on_dispatch_timer.on_dispatch_timer.Goals as goal

@@ -1,10 +1,5 @@
 -- `all_received`: the entries that are left decide.
-use Rattle.std.proofs.Common.{◌+◌, rules, not, sym, ap, ◌∙◌}
-use borrow.Author.Tests.{not-true, not-false}
-use Rattle.postcard.specs.Values.{ihave_value}
-use Rattle.wire.specs.Reader.Values.{ihaves_value}
-use Rattle.decide.specs.Settled.{settled}
-use Rattle.block.specs.Views.{shown}
+use Rattle.announcements.proofs.Words.{◌+◌, rules, not, sym, ap, ◌∙◌, not-true, not-false, ihave_value, ihaves_value, settled, shown}
 use Rattle.announcements.specs.Ihaves.New.{is_received}
 use Rattle.announcements.proofs.IhavesLaws.ReceivedLaws.{rest-start, rest_end, rest-next, rest-fails}
 use Rattle.announcements.proofs.IhavesLaws.WalkLaws.{after_none, after-end, after-here, after-next}

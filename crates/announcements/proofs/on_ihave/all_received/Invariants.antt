@@ -1,7 +1,5 @@
 -- `all_received`: the entries that are left decide.
-use Rattle.wire.specs.Reader.Values.{ihaves_value}
-use Rattle.decide.specs.Settled.{settled}
-use Rattle.block.specs.Views.{shown}
+use Rattle.announcements.proofs.Words.{ihaves_value, settled, shown}
 use Rattle.announcements.specs.Ihaves.New.{is_received}
 use Rattle.announcements.proofs.IhavesLaws.ReceivedLaws.{Rest}
 use Rattle.announcements.proofs.IhavesLaws.WalkLaws.{Walk}

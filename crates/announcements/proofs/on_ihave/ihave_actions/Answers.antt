@@ -1,14 +1,8 @@
 -- `ihave_actions`: after i entries the timers of the first i are written.
-use Rattle.std.proofs.Common.{ℕ, ◌+◌, ◌≡◌, ◌<◌, true, false, Bool, List, [], ◌∷◌, ◌++◌, ap, sym, ◌∙◌, arith, take, rules}
-use Rattle.postcard.specs.Message.{Ihave, Scheduled, SendGraft, action_bytes}
-use Rattle.postcard.specs.Values.{ihave_value}
+use Rattle.announcements.proofs.Words.{ℕ, ◌+◌, ◌≡◌, ◌<◌, true, false, Bool, List, [], ◌∷◌, ◌++◌, ap, sym, ◌∙◌, arith, take, rules, Ihave, Scheduled, SendGraft, action_bytes, ihave_value, ihaves_value, State, settled, shown}
 use Rattle.wire.specs.Encode.Intake.{after}
-use Rattle.wire.specs.Reader.Values.{ihaves_value}
 use Rattle.wire.proofs.ReaderLaws.AnnouncedLaws.{announced_count}
-use Rattle.protocol.specs.State.{State}
-use Rattle.decide.specs.Settled.{settled}
 use Rattle.decide.specs.NewIds.{known_timer}
-use Rattle.block.specs.Views.{shown}
 use Rattle.announcements.specs.Ihaves.New.{is_new}
 use Rattle.announcements.proofs.OnIhaveLaws.{schedule-start, schedule-end, schedule-skip, schedule-next, then-delay}
 use Rattle.announcements.proofs.IhavesLaws.WalkLaws.{after_none, after-end, after-taken, after-next, after-below}

@@ -1,9 +1,6 @@
 -- `ihave_actions`: after i entries the timers of the first i are written.
-use Rattle.std.proofs.Common.{◌≡◌, take}
+use Rattle.announcements.proofs.Words.{◌≡◌, take, ihaves_value, settled, shown}
 use Rattle.wire.specs.Encode.Intake.{after}
-use Rattle.wire.specs.Reader.Values.{ihaves_value}
-use Rattle.decide.specs.Settled.{settled}
-use Rattle.block.specs.Views.{shown}
 use Rattle.announcements.proofs.OnIhaveLaws.{scheduled}
 use Rattle.announcements.proofs.IhavesLaws.WalkLaws.{After}
 use Rattle.announcements.proofs.on_ihave.ihave_actions.Given as goal

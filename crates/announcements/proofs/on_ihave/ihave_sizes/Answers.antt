@@ -1,15 +1,8 @@
 -- `ihave_sizes`: after i entries the numbers are those with the first i.
-use Rattle.std.proofs.Common.{◌<◌, ◌∙◌, arith, List, take, subst, rules}
-use Rattle.storage.specs.Rows.Ident.{id_of}
-use Rattle.postcard.specs.Message.{Ihave}
-use Rattle.postcard.specs.Values.{ihave_value}
-use Rattle.wire.specs.Reader.Values.{ihaves_value}
+use Rattle.announcements.proofs.Words.{◌<◌, ◌∙◌, arith, List, take, subst, rules, id_of, Ihave, ihave_value, ihaves_value, settled, peer_at, shown}
 use Rattle.wire.proofs.ReaderLaws.AnnouncedLaws.{announced_count}
-use Rattle.decide.specs.Settled.{settled}
-use Rattle.block.specs.LinkSteps.{peer_at}
 use Rattle.block.proofs.TimerLaws.{count-timers}
 use Rattle.block.proofs.MissingLaws.{count-missing}
-use Rattle.block.specs.Views.{shown}
 use Rattle.steps.proofs.EvictStepLaws.{rest-settled}
 use Rattle.announcements.specs.OnIhave.{Adds}
 use Rattle.announcements.proofs.OnIhaveLaws.{sized-start, sized-next, sized-end, sized-few, byte-few, then-missing, then-timers}

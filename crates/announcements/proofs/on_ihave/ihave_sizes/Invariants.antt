@@ -1,10 +1,6 @@
 -- `ihave_sizes`: after i entries the numbers are those with the first i.
-use Rattle.std.proofs.Common.{◌≡◌, take}
-use Rattle.wire.specs.Reader.Values.{ihaves_value}
-use Rattle.decide.specs.Settled.{settled}
+use Rattle.announcements.proofs.Words.{◌≡◌, take, ihaves_value, settled, sizes_value, shown}
 use Rattle.decide.proofs.SizesAfter.{ihave_sizes}
-use Rattle.steps.specs.Shared.{sizes_value}
-use Rattle.block.specs.Views.{shown}
 use Rattle.announcements.proofs.IhavesLaws.WalkLaws.{After}
 use Rattle.announcements.proofs.on_ihave.ihave_sizes.Given as goal
 

@@ -1,8 +1,5 @@
 -- `new_of` meets its contract: by its tests.
-use Rattle.std.proofs.Common.{sym, ◌∙◌}
-use Rattle.storage.specs.Rows.Ident.{id_of}
-use Rattle.wire.specs.Reader.Values.{ihaves_value}
-use Rattle.block.specs.Views.{shown}
+use Rattle.announcements.proofs.Words.{sym, ◌∙◌, id_of, ihaves_value, shown}
 use Rattle.announcements.proofs.OnIhaveLaws.{adds-received, adds-before, adds-known, adds-new}
 use Rattle.announcements.proofs.on_ihave.new_of.Goals as goal
 

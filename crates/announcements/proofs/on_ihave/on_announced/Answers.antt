@@ -1,12 +1,6 @@
 -- `on_announced` meets its contract: a message that is received changes nothing, and any other gets an announcer and a mark.
-use Rattle.std.proofs.Common.{true, false, refl, sym, ap, ◌∙◌, ◌≡◌, ◌≤◌, Bool, length, subst}
-use Rattle.storage.specs.Rows.Ident.{id_of}
-use Rattle.time_cache.specs.TimeCache.{holds}
-use Rattle.protocol.specs.State.{State}
+use Rattle.announcements.proofs.Words.{true, false, refl, sym, ap, ◌∙◌, ◌≡◌, ◌≤◌, Bool, length, subst, id_of, holds, State, state, same-state, links-few}
 use Rattle.block.specs.TimerSteps.{timer_marked}
-use Rattle.block.specs.Panels.{state}
-use Rattle.block.proofs.PanelLaws.{same-state}
-use Rattle.block.proofs.ViewLaws.{links-few}
 use Rattle.announcements.proofs.OnIhaveLaws.{announced-still, announced-new, announcing, mark-within}
 use Rattle.announcements.proofs.on_ihave.on_announced.Goals as goal
 use Rattle.announcements.proofs.on_ihave.on_announced.Goals.{After-is_received}

@@ -1,8 +1,5 @@
 -- `on_ihave`: after i entries the state is that of the first i.
-use Rattle.std.proofs.Common.{◌+◌, rules, refl, ◌∙◌}
-use Rattle.postcard.specs.Values.{ihave_value}
-use Rattle.wire.specs.Reader.Values.{ihaves_value}
-use Rattle.block.specs.Panels.{state}
+use Rattle.announcements.proofs.Words.{◌+◌, rules, refl, ◌∙◌, ihave_value, ihaves_value, state}
 use Rattle.announcements.proofs.OnIhaveLaws.{heard-start, heard-end, link-there, step-next, heard-next}
 use Rattle.announcements.proofs.IhavesLaws.WalkLaws.{after_none, after-end, after-taken, after-next}
 use Rattle.announcements.proofs.on_ihave.on_ihave.Goals as goal

@@ -1,7 +1,5 @@
 -- `on_ihave`: after i entries the state is that of the first i.
-use Rattle.std.proofs.Common.{take}
-use Rattle.wire.specs.Reader.Values.{ihaves_value}
-use Rattle.block.specs.Panels.{Goes}
+use Rattle.announcements.proofs.Words.{take, ihaves_value, Goes}
 use Rattle.announcements.specs.Ihaves.Heard.{heard_from}
 use Rattle.announcements.proofs.IhavesLaws.WalkLaws.{Walk}
 use Rattle.announcements.proofs.on_ihave.on_ihave.Given as goal

@@ -1,8 +1,5 @@
 -- `stands_before`: the identifier is not among the entries taken.
-use Rattle.std.proofs.Common.{◌+◌, rules, sym, ◌∙◌}
-use Rattle.storage.specs.Rows.Ident.{id_of}
-use Rattle.postcard.specs.Values.{ihave_value}
-use Rattle.wire.specs.Reader.Values.{ihaves_value}
+use Rattle.announcements.proofs.Words.{◌+◌, rules, sym, ◌∙◌, id_of, ihave_value, ihaves_value}
 use Rattle.announcements.proofs.IhavesLaws.ScanLaws.{absent-start, absent-end, absent_more, present}
 use Rattle.announcements.proofs.IhavesLaws.WalkLaws.{after_none, after-end, after-taken, after-next}
 use Rattle.announcements.proofs.on_ihave.stands_before.Goals as goal

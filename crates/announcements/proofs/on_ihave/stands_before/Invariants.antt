@@ -1,6 +1,5 @@
 -- `stands_before`: the identifier is not among the entries taken.
-use Rattle.storage.specs.Rows.Ident.{id_of}
-use Rattle.wire.specs.Reader.Values.{ihaves_value}
+use Rattle.announcements.proofs.Words.{id_of, ihaves_value}
 use Rattle.announcements.proofs.IhavesLaws.ScanLaws.{Absent}
 use Rattle.announcements.proofs.IhavesLaws.WalkLaws.{Walk}
 use Rattle.announcements.proofs.on_ihave.stands_before.Given as goal

@@ -1,14 +1,8 @@
 -- `ask_first` meets its contract: the first announcer leaves, becomes eager, and is grafted for the message.
-use Rattle.std.proofs.Common.{sym, ap, ◌∙◌, ◌≡◌, ◌<◌, get_or, length, subst}
-use Rattle.storage.specs.Rows.Ident.{id_of}
-use Rattle.protocol.specs.Links.{add_eager}
-use Rattle.protocol.specs.State.{State}
-use Rattle.block.specs.LinkSteps.{peer_at, linked}
+use Rattle.announcements.proofs.Words.{sym, ap, ◌∙◌, ◌≡◌, ◌<◌, get_or, length, subst, id_of, add_eager, State, peer_at, linked, state, same-state}
 use Rattle.block.specs.MissingSteps.{hop, hops_at}
 use Rattle.steps.specs.Asked.{Graftable, grafted_until}
 use Rattle.block.specs.Found.{HopOf}
-use Rattle.block.specs.Panels.{state}
-use Rattle.block.proofs.PanelLaws.{same-state}
 use Rattle.announcements.proofs.OnSendGraftTimerLaws.{some-hops, mid, asked-graft, asked-graftable}
 use Rattle.announcements.proofs.on_send_graft_timer.ask_first.Goals as goal
 use Rattle.announcements.proofs.on_send_graft_timer.ask_first.Goals.{Start, After-announcer-first, After-add_eager}

@@ -1,12 +1,6 @@
 -- `on_send_graft_timer` meets its contract: the mark goes, and unless the message is received its first announcer is asked.
-use Rattle.std.proofs.Common.{true, false, sym, ap, ◌∙◌, ◌≡◌, Bool, [], subst}
-use Rattle.storage.specs.Rows.Ident.{id_of}
-use Rattle.time_cache.specs.TimeCache.{holds}
-use Rattle.protocol.specs.State.{State}
-use Rattle.protocol.specs.Whole.{fits}
+use Rattle.announcements.proofs.Words.{true, false, sym, ap, ◌∙◌, ◌≡◌, Bool, [], subst, id_of, holds, State, fits, state, AtRest, same-state}
 use Rattle.protocol.specs.Gossips.{announcers}
-use Rattle.block.specs.Panels.{state, AtRest}
-use Rattle.block.proofs.PanelLaws.{same-state}
 use Rattle.announcements.specs.SendGraft.Asks.{asked_first}
 use Rattle.announcements.proofs.OnSendGraftTimerLaws.{unmarked-rest, sent-received, sent-asked, sent-nobody}
 use Rattle.announcements.proofs.on_send_graft_timer.on_send_graft_timer.Goals as goal

@@ -1,14 +1,8 @@
 -- `send_graft_actions` meets its contract: none of a message that is received or that nobody announced, and else the Graft, then the timer.
-use Rattle.std.proofs.Common.{Some, arith, sym, ap, ◌∙◌, ◌≡◌, ◌++◌, ℕ, List}
-use Rattle.storage.specs.Rows.Ident.{id_of}
-use Rattle.postcard.specs.Message.{Graft, Scheduled, SendGraft, message_bytes, action_bytes}
+use Rattle.announcements.proofs.Words.{Some, arith, sym, ap, ◌∙◌, ◌≡◌, ◌++◌, ℕ, List, id_of, Graft, Scheduled, SendGraft, message_bytes, action_bytes, settled, after_append, after_nil, shown, links-few}
 use Rattle.postcard.specs.Output.{send_head}
-use Rattle.decide.specs.Settled.{settled}
 use Rattle.wire.specs.Encode.Intake.{after}
-use Rattle.wire.proofs.EncodeLaws.IntakeLaws.{after_append, after_nil}
-use Rattle.block.specs.Views.{shown}
 use Rattle.block.specs.declared.links.NumberedLink.{NumberedLink}
-use Rattle.block.proofs.ViewLaws.{links-few}
 use Rattle.announcements.specs.OnSendGraftTimer.{send_graft_bytes}
 use Rattle.announcements.proofs.OnSendGraftTimerLaws.{some-hops, bytes-received, bytes-nobody, bytes-asked}
 use Rattle.announcements.proofs.on_send_graft_timer.send_graft_actions.Goals as goal

@@ -1,13 +1,8 @@
 -- `send_graft_sizes` meets its contract: the mark gone, and where the message is not received what asking leaves.
-use Rattle.std.proofs.Common.{arith, sym, ◌∙◌, ◌-◌, eqb}
+use Rattle.announcements.proofs.Words.{arith, sym, ◌∙◌, ◌-◌, eqb, id_of, get, settled, sizes_value, shown}
 use mir.Val.{bool_byte}
-use Rattle.storage.specs.Rows.Ident.{id_of}
-use Rattle.time_cache.specs.TimeCache.{get}
-use Rattle.decide.specs.Settled.{settled}
 use Rattle.block.proofs.CachesLaws.GraftedLaws.{count-grafted, count-grafted-rows}
 use Rattle.steps.specs.Settled.Then.{no_grafts}
-use Rattle.steps.specs.Shared.{sizes_value}
-use Rattle.block.specs.Views.{shown}
 use Rattle.announcements.proofs.OnSendGraftTimerLaws.{entry-there, entry-gone, marks-fewer, marks-left, missing-fewer, missing-left, sized-received, sized-nobody, sized-there, sized-new, sized-few}
 use Rattle.announcements.proofs.on_send_graft_timer.send_graft_sizes.Goals as goal
 

@@ -1,9 +1,5 @@
 -- The store is a put in the list.
-use Rattle.std.proofs.Common.{◌≡◌, ◌+◌, ◌*◌, ap, ◌∙◌, ℕ, arith}
-use Rattle.storage.specs.Rows.Part.{put}
-use Rattle.storage.specs.Rows.Digits.{le_bytes}
-use Rattle.storage.proofs.RowsLaws.Parts.{put-inside}
-use Rattle.storage.proofs.RowsLaws.Digits.{length-le_bytes}
+use Rattle.block.proofs.Words.{◌≡◌, ◌+◌, ◌*◌, ap, ◌∙◌, ℕ, arith, put, le_bytes, put-inside, length-le_bytes}
 use Rattle.block.proofs.hops.set_round.Goals as goal
 
 pub returns : goal.returns

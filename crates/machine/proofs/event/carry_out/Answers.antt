@@ -1,14 +1,13 @@
 -- `carry_out` meets its contract: by the task.
-use Rattle.std.proofs.Common.{◌≡◌, ap, sym, ◌∙◌}
+use Rattle.machine.proofs.Words.{◌≡◌, ap, sym, ◌∙◌, state}
 use Rattle.storage.specs.Rows.Part.{put}
 use Rattle.storage.proofs.RowsLaws.Parts.{put-nil}
-use Rattle.block.specs.Panels.{state}
 use Rattle.machine.specs.Outcomes.{task_bytes}
 use Rattle.machine.specs.declared.event.Task.{Task}
 use Rattle.machine.proofs.event.carry_out.Goals as goal
 use Rattle.machine.proofs.event.carry_out.Goals.{Start}
 
-as_bytes : (s : Start) {t : Task} → s.args.task ≡ t → put 0 (task_bytes s.args.call.now t (state s.args.panel.now)) s.args.out.now ≡ put 0 (task_bytes s.args.call.now s.args.task (state s.args.panel.now)) s.args.out.now
+as_bytes : (s : Start) {t : Task} → s.args.task.now ≡ t → put 0 (task_bytes s.args.call.now t (state s.args.panel.now)) s.args.out.now ≡ put 0 (task_bytes s.args.call.now s.args.task.now (state s.args.panel.now)) s.args.out.now
 as_bytes s e = ap (λ (t : Task). put 0 (task_bytes s.args.call.now t (state s.args.panel.now)) s.args.out.now) (sym e)
 
 pub returns-in-Up-clause-output : goal.returns-in-Up-clause-output

@@ -1,6 +1,5 @@
 -- `counts_after`: by the step.
-use Rattle.std.proofs.Common.{sym, ap, ◌∙◌}
-use borrow.Author.Tests.{eqb-false}
+use Rattle.machine.proofs.Words.{sym, ap, ◌∙◌, eqb-false}
 use Rattle.machine.specs.Called.{counts_of}
 use Rattle.machine.specs.Kinds.Meaning.{step_far, step_counts}
 use Rattle.machine.specs.declared.kinds.Step.{Step}

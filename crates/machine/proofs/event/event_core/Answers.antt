@@ -1,17 +1,9 @@
 -- `event_core`: questions 5 to 14 and 23, then the event.
-use Rattle.std.proofs.Common.{Some, ◌≡◌, ℕ, ◌≤◌, List, ap, sym, ◌∙◌, refl, arith, length, subst}
+use Rattle.machine.proofs.Words.{Some, ◌≡◌, ℕ, ◌≤◌, List, ap, sym, ◌∙◌, refl, arith, length, subst, identifier, event_value, State, block_need, Outcome, answer_block, Stored, Sound, state_of, Head, AtRest}
 use Rattle.std.proofs.lemmas.Result.{err_from_is_err_and}
 use Rattle.refusal.specs.Numbers.{number_of}
-use Rattle.blake3.specs.Blake3.{identifier}
-use Rattle.wire.specs.Reader.Values.{event_value}
-use Rattle.protocol.specs.State.{State, block_need}
-use Rattle.protocol.specs.Answer.{Call, Outcome, answer_block}
-use Rattle.block.specs.Header.{Stored}
-use Rattle.block.specs.Sound.{Sound}
-use Rattle.block.specs.View.{state_of}
-use Rattle.block.specs.declared.head.Head.{Head}
+use Rattle.protocol.specs.Answer.{Call}
 use Rattle.whole.specs.Held.{held}
-use Rattle.block.specs.Panels.{AtRest}
 use Rattle.machine.specs.Called.{counts_of, call_of, lent}
 use Rattle.machine.specs.Core.{core_rooms}
 use Rattle.machine.specs.Steps.{Keeps}
@@ -51,8 +43,11 @@ returns-in_err-event-clause-refused c =
 pub load_head-head-requires : goal.load_head-head-requires
 load_head-head-requires c = header-long c.args.block.now (reads (goal.at.load_head-head-requires c).In_ok-event).wholly
 
-pub invariant_of-view : goal.invariant_of-view
-invariant_of-view c = record { sound = sound (goal.at.invariant_of-view c).After-load_head-head }
+pub of-layout-requires : goal.of-layout-requires
+of-layout-requires c = (sound (goal.at.of-layout-requires c).After-load_head-head).fit.ceilings
+
+pub invariant_of-view-clause-sound : goal.invariant_of-view-clause-sound
+invariant_of-view-clause-sound c = sound (goal.at.invariant_of-view-clause-sound c).After-load_head-head
 
 pub ask-requires : goal.ask-requires
 ask-requires c =

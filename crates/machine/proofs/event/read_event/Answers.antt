@@ -1,6 +1,5 @@
 -- `read_event` meets its contract: questions 5 to 9 and 23.
-use Rattle.std.proofs.Common.{◌≡◌, ap, ◌∙◌, refl, arith, ◌^◌, not, le-leb}
-use borrow.Author.Tests.{lt-leb}
+use Rattle.machine.proofs.Words.{◌≡◌, ap, ◌∙◌, refl, arith, ◌^◌, not, le-leb, lt-leb}
 use Rattle.postcard.proofs.FieldBack.{bytes-each}
 use Rattle.std.proofs.lemmas.Result.{err_from_is_err_and}
 use Rattle.postcard.specs.Decode.{decode_event}

@@ -1,9 +1,7 @@
 -- `broadcast_step`: by its size.
-use Rattle.std.proofs.Common.{ap, ◌≡◌, sym, ◌∙◌, not, ltb, length}
-use borrow.Author.Tests.{not-false}
+use Rattle.machine.proofs.Words.{ap, ◌≡◌, sym, ◌∙◌, not, ltb, length, not-false, shown}
 use Rattle.postcard.specs.Sizes.{gossip_size}
 use Rattle.block.specs.View.{state_of}
-use Rattle.block.specs.Views.{shown}
 use Rattle.machine.proofs.KindsLaws.MeaningLaws.{means-oversize, means-broadcast, broadcast-held, over-of}
 use Rattle.machine.proofs.kinds.broadcast_step.Goals as goal
 use Rattle.machine.proofs.kinds.broadcast_step.Goals.{After-broadcast_fits}
@@ -18,17 +16,17 @@ over c =
     let a = c.args in
     over-of (shown a.view.now) (length a.content.now) c.broadcast_fits.result (sym c.broadcast_fits.ensures)
 
-pub returns-then-not-broadcast_fits : goal.returns-then-not-broadcast_fits
-returns-then-not-broadcast_fits c =
+pub returns-then-not-broadcast_fits-clause-means : goal.returns-then-not-broadcast_fits-clause-means
+returns-then-not-broadcast_fits-clause-means c =
     let a = c.args in
-    means-oversize a.call.now.instant.0 (shown a.view.now) a.content.now c.requires.consistent.core (over (goal.at.returns-then-not-broadcast_fits c).After-broadcast_fits ∙ (ap not c.if-not-broadcast_fits.true))
+    means-oversize a.call.now.instant.0 (shown a.view.now) a.content.now c.requires.consistent.core (over (goal.at.returns-then-not-broadcast_fits-clause-means c).After-broadcast_fits ∙ (ap not c.if-not-broadcast_fits.true))
 
-pub returns : goal.returns
+pub returns-clause-means : goal.returns-clause-means
 unfolding state_of
-returns c =
+returns-clause-means c =
     let f = c.broadcast_fits in
     let a = c.args in
-    means-broadcast a.call.now.instant.0 (shown a.view.now) c.hash-id.result a.content c.requires.consistent.core
+    means-broadcast a.call.now.instant.0 (shown a.view.now) c.hash-id.result a.content c.decide_own_push-push.result c.requires.consistent.core
     c.hash-id.ensures
     (broadcast-held (shown a.view.now) a.content.now c.requires.ranged (sym f.ensures ∙ not-false f.result (ap not c.if-not-broadcast_fits.false)))
-    (over (goal.at.returns c).After-broadcast_fits ∙ (ap not c.if-not-broadcast_fits.false))
+    (over (goal.at.returns-clause-means c).After-broadcast_fits ∙ (ap not c.if-not-broadcast_fits.false))

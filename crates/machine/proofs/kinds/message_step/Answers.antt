@@ -1,10 +1,7 @@
 -- `message_step`: by the message, and by whether its sender is a neighbour.
-use Rattle.std.proofs.Common.{◌≡◌, sym, subst, ℕ, ◌≤◌, length, Option}
-use Rattle.postcard.specs.Message.{Received, message_bytes}
-use Rattle.wire.specs.Reader.Values.{message_value}
+use Rattle.machine.proofs.Words.{◌≡◌, sym, subst, ℕ, ◌≤◌, length, Option, Received, message_bytes, message_value, shown}
 use Rattle.wire.specs.declared.reader.message.Message.{Message}
 use Rattle.block.specs.Found.{LinkOf}
-use Rattle.block.specs.Views.{shown}
 use Rattle.machine.specs.Kinds.Meaning.{Means}
 use Rattle.machine.specs.declared.kinds.Step.{Step}
 use Rattle.machine.proofs.KindsLaws.MeaningLaws.{means-prune, means-graft, means-stranger-prune, means-stranger-graft, means-stranger-ihave, ihaves-held}
@@ -30,23 +27,23 @@ ihave_step-requires c =
           (subst (λ (v : Message). length (message_bytes (message_value v)) ≤ s.settings.max_message_size) i.is-0 c.requires.1),
     )
 
-pub returns-in-Prune-Some : goal.returns-in-Prune-Some
-returns-in-Prune-Some c =
-    let d = (goal.at.returns-in-Prune-Some c).After-find_link in
+pub returns-in-Prune-Some-clause-means : goal.returns-in-Prune-Some-clause-means
+returns-in-Prune-Some-clause-means c =
+    let d = (goal.at.returns-in-Prune-Some-clause-means c).After-find_link in
     let a = c.args in
     let i = c.in-Prune-Some in
     of d i.is-0 (means-prune a.call.now.instant.0 (shown a.view.now) a.sender i.link c.requires.0.consistent.core (found d i.is-1))
 
-pub returns-in-Graft-Some : goal.returns-in-Graft-Some
-returns-in-Graft-Some c =
-    let d = (goal.at.returns-in-Graft-Some c).After-find_link in
+pub returns-in-Graft-Some-clause-means : goal.returns-in-Graft-Some-clause-means
+returns-in-Graft-Some-clause-means c =
+    let d = (goal.at.returns-in-Graft-Some-clause-means c).After-find_link in
     let a = c.args in
     let i = c.in-Graft-Some in
     of d i.is-0 (means-graft a.call.now.instant.0 (shown a.view.now) a.sender i.link c.requires.0.consistent.core (found d i.is-1) i.graft.wanted i.graft.round.0)
 
-pub returns-in_default-None : goal.returns-in_default-None
-returns-in_default-None c =
-    let d = (goal.at.returns-in_default-None c).After-find_link in
+pub returns-in_default-None-clause-means : goal.returns-in_default-None-clause-means
+returns-in_default-None-clause-means c =
+    let d = (goal.at.returns-in_default-None-clause-means c).After-find_link in
     let a = c.args in
     let s = shown a.view.now in
     let core = c.requires.0.consistent.core in

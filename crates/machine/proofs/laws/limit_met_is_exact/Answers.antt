@@ -1,4 +1,4 @@
-use Rattle.machine.proofs.LimitMetLaws.Exactly.{met-13, limit-13}
+use Rattle.machine.proofs.LimitMetLaws.{met-13, limit-13}
 use Rattle.machine.proofs.laws.limit_met_is_exact.Goals as goal
 
 pub returns : goal.returns

@@ -1,8 +1,5 @@
 -- `call_state` meets its contract: a first event's work, and the step behind it.
-use Rattle.std.proofs.Common.{◌≡◌, ap, ◌∙◌}
-use Rattle.decide.specs.Settled.{settled}
-use Rattle.protocol.specs.State.{State}
-use Rattle.block.specs.Panels.{state}
+use Rattle.machine.proofs.Words.{◌≡◌, ap, ◌∙◌, settled, State, state}
 use Rattle.machine.specs.Steps.{after_step}
 use Rattle.machine.proofs.KindsLaws.MeaningLaws.{first-settled}
 use Rattle.machine.proofs.StepLaws.{due-ready}
@@ -14,10 +11,10 @@ now_settled : (c : After-first_event) → state c.first_event.new.panel ≡ sett
 now_settled c = c.first_event.ensures.goes.state ∙ first-settled c.args.call.now.instant.0 (state c.args.panel.now) c.requires.allowed.rest.consistent.core
 
 pub step_state-requires : goal.step_state-requires
-step_state-requires c = due-ready c.args.call.now c.args.step (state c.args.panel.now) (state c.first_event.new.panel) c.requires (now_settled (goal.at.step_state-requires c).After-first_event)
+step_state-requires c = due-ready c.args.call.now c.args.step.now (state c.args.panel.now) (state c.first_event.new.panel) c.requires (now_settled (goal.at.step_state-requires c).After-first_event)
 
 pub returns : goal.returns
 returns c = record {
-  state = c.step_state.ensures.state ∙ ap (λ (s : State). after_step c.args.call.now c.args.step s) (now_settled (goal.at.returns c).After-first_event);
+  state = c.step_state.ensures.state ∙ ap (λ (s : State). after_step c.args.call.now c.args.step.now s) (now_settled (goal.at.returns c).After-first_event);
   loan = c.step_state.ensures.loan ∙ c.first_event.ensures.goes.loan;
 }

@@ -1,12 +1,9 @@
 -- `step_sizes` meets its contract: each arm is its step.
-use Rattle.std.proofs.Common.{◌≡◌, ap, sym, ◌∙◌}
-use Rattle.protocol.specs.State.{State}
-use Rattle.decide.specs.Settled.{settled}
+use Rattle.machine.proofs.Words.{◌≡◌, ap, sym, subst, ◌∙◌, State, settled, shown}
 use Rattle.decide.specs.Sizes.{sizes_of}
-use Rattle.block.specs.Views.{shown}
 use Rattle.machine.specs.Kinds.Meaning.{step_state}
 use Rattle.machine.specs.declared.kinds.Step.{Step}
-use Rattle.machine.specs.Steps.{after_event}
+use Rattle.machine.specs.Steps.{after_event, Named}
 use Rattle.machine.proofs.StepLaws.{settled-consistent, others-sized}
 use Rattle.machine.proofs.step.step_sizes.Goals as goal
 use Rattle.machine.proofs.step.step_sizes.Goals.{Start}
@@ -14,8 +11,22 @@ use Rattle.machine.proofs.step.step_sizes.Goals.{Start}
 abbrev shows : Start → State
 shows s = shown s.args.view.now
 
-as_step : (s : Start) {r : Step} → s.args.step ≡ r → sizes_of (after_event s.args.call.now r (shows s)) ≡ sizes_of (after_event s.args.call.now s.args.step (shows s))
+as_step : (s : Start) {r : Step} → s.args.step.now ≡ r → sizes_of (after_event s.args.call.now r (shows s)) ≡ sizes_of (after_event s.args.call.now s.args.step.now (shows s))
 as_step s e = ap (λ (r : Step). sizes_of (after_event s.args.call.now r (shows s))) (sym e)
+
+-- what is known of the step that the match tells
+known : (s : Start) {r : Step} → s.args.step.now ≡ r → Named s.args.call.now r (shows s)
+known s e = subst (λ (r : Step). Named s.args.call.now r (shows s)) e s.requires
+
+pub gossip_sizes-requires : goal.gossip_sizes-requires
+gossip_sizes-requires c =
+    let k = known (goal.at.gossip_sizes-requires c).Start c.in-NewSwarm.is in
+    (k.rest, k.decided)
+
+pub broadcast_sizes-requires : goal.broadcast_sizes-requires
+broadcast_sizes-requires c =
+    let k = known (goal.at.broadcast_sizes-requires c).Start c.in-Broadcast.is in
+    (k.rest, k.decided)
 
 pub returns-in-Graft : goal.returns-in-Graft
 unfolding step_state
@@ -26,7 +37,7 @@ returns-in_default c =
     let k = c.args.call.now in
     let s = shown c.args.view.now in
     let d = c.in_default in
-    c.sizes_then.ensures ∙ others-sized (settled k.instant.0 s) (settled-consistent k.instant.0 s c.requires.rest.consistent) k c.args.step d.not-NewSwarm d.not-Graft d.not-IHave d.not-Broadcast d.not-SendGraft d.not-DispatchLazyPush d.not-EvictCache d.not-AnnounceDropped
+    c.sizes_then.ensures ∙ others-sized (settled k.instant.0 s) (settled-consistent k.instant.0 s c.requires.rest.consistent) k c.args.step.now d.not-NewSwarm d.not-Graft d.not-IHave d.not-Broadcast d.not-SendGraft d.not-DispatchLazyPush d.not-EvictCache d.not-AnnounceDropped
 
 pub returns-in-NewSwarm : goal.returns-in-NewSwarm
 unfolding step_state

@@ -1,7 +1,5 @@
 -- `step_state` meets its contract: each arm is its step.
-use Rattle.std.proofs.Common.{◌≡◌, sym, refl, subst}
-use borrow.Author.Tests.{eqb-false}
-use Rattle.block.specs.Panels.{state, Goes}
+use Rattle.machine.proofs.Words.{◌≡◌, sym, refl, subst, eqb-false, state, Goes}
 use Rattle.block.specs.declared.panel.Panel.{Panel}
 use Rattle.machine.specs.Kinds.Meaning.{step_state, step_far}
 use Rattle.machine.specs.declared.kinds.Step.{Step}
@@ -11,11 +9,11 @@ use Rattle.machine.proofs.step.step_state.Goals as goal
 use Rattle.machine.proofs.step.step_state.Goals.{Start}
 
 -- what the match tells of the step
-known : (s : Start) {r : Step} → s.args.step ≡ r → Ready s.args.call.now r (state s.args.panel.now)
+known : (s : Start) {r : Step} → s.args.step.now ≡ r → Ready s.args.call.now r (state s.args.panel.now)
 known s e = subst (λ (r : Step). Ready s.args.call.now r (state s.args.panel.now)) e s.requires
 
 -- the state goes the step's way where it goes that of what the match tells
-goes : (s : Start) {r : Step} {q : Panel} → s.args.step ≡ r → Goes (after_step s.args.call.now r) s.args.panel.now q → Goes (after_step s.args.call.now s.args.step) s.args.panel.now q
+goes : (s : Start) {r : Step} {q : Panel} → s.args.step.now ≡ r → Goes (after_step s.args.call.now r) s.args.panel.now q → Goes (after_step s.args.call.now s.args.step.now) s.args.panel.now q
 goes s {r} {q} e = subst (λ (step : Step). Goes (after_step s.args.call.now step) s.args.panel.now q) (sym e)
 
 pub on_gossip-requires : goal.on_gossip-requires
@@ -23,7 +21,12 @@ unfolding step_state step_far
 on_gossip-requires c =
     let k = known (goal.at.on_gossip-requires c).Start c.in-NewSwarm.is in
     let near = eqb-false c.in-NewSwarm.message.round.0 65535 k.near in
-    record { allowed = (record { rest = k.allowed.rest; fits = k.allowed.fits }, k.begun); ranges = (near, k.early) }
+    record { allowed = (record { rest = k.allowed.rest; fits = k.allowed.fits }, k.begun); decided = k.decided; ranges = (near, k.early) }
+
+pub on_late_graft_reply-requires : goal.on_late_graft_reply-requires
+on_late_graft_reply-requires c =
+    let k = known (goal.at.on_late_graft_reply-requires c).Start c.in-Late.is in
+    (k.allowed.rest, k.begun, k.held)
 
 pub on_graft-requires : goal.on_graft-requires
 unfolding step_state
@@ -41,7 +44,7 @@ pub broadcast-requires : goal.broadcast-requires
 unfolding step_state
 broadcast-requires c =
     let k = known (goal.at.broadcast-requires c).Start c.in-Broadcast.is in
-    (record { rest = k.allowed.rest; fits = k.allowed.fits }, k.early)
+    (record { rest = k.allowed.rest; fits = k.allowed.fits }, k.decided, k.early)
 
 pub on_send_graft_timer-requires : goal.on_send_graft_timer-requires
 unfolding step_state
@@ -69,7 +72,7 @@ pub returns-in_default : goal.returns-in_default
 returns-in_default c =
     let d = c.in_default in
     record {
-      state = others-still c.args.call.now c.args.step (state c.args.panel.now) d.not-NewSwarm d.not-Late d.not-Prune d.not-Graft d.not-IHave d.not-Broadcast d.not-SendGraft d.not-DispatchLazyPush d.not-EvictCache d.not-AnnounceDropped;
+      state = others-still c.args.call.now c.args.step.now (state c.args.panel.now) d.not-NewSwarm d.not-Late d.not-Prune d.not-Graft d.not-IHave d.not-Broadcast d.not-SendGraft d.not-DispatchLazyPush d.not-EvictCache d.not-AnnounceDropped;
       loan = refl;
     }
 

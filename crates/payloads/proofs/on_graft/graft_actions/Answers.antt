@@ -1,21 +1,8 @@
 -- `graft_actions` meets its contract: nothing, or the message and the record's timer behind it.
-use Rattle.std.proofs.Common.{arith, ap, sym, ◌∙◌, ◌++◌, ℕ, not, List, Option}
-use Rattle.storage.specs.Lists.Base.{concat_map}
-use Rattle.storage.specs.Rows.Ident.{id_of}
-use Rattle.storage.specs.declared.rows.id.Id.{Id}
-use Rattle.postcard.specs.Message.{Gossip, Swarm, message_bytes, action_bytes}
-use Rattle.postcard.specs.Output.{send_head}
-use Rattle.decide.specs.Settled.{settled}
-use Rattle.decide.specs.RecordGrowth.{announce_action}
-use Rattle.block.specs.LinkSteps.{peer_at}
-use Rattle.wire.specs.Encode.Intake.{after}
-use Rattle.wire.proofs.EncodeLaws.IntakeLaws.{after_append, after_nil}
+use Rattle.payloads.proofs.Words.{arith, ap, sym, ◌∙◌, ◌++◌, ℕ, not, List, Option, concat_map, id_of, Id, message_bytes, action_bytes, send_head, settled, announce_action, peer_at, after, after_append, after_nil, shown, links-few, NumberedLink, rooms_of}
+use Rattle.postcard.specs.Message.{Gossip, Swarm}
 use Rattle.block.specs.Caches.CachedReads.{cached_value}
-use Rattle.block.specs.Views.{shown}
 use Rattle.payloads.specs.OnGraft.{graft_bytes}
-use Rattle.block.proofs.ViewLaws.{links-few}
-use Rattle.block.specs.declared.links.NumberedLink.{NumberedLink}
-use Rattle.steps.specs.Calls.{rooms_of}
 use Rattle.payloads.proofs.OnGraftLaws.{no-bytes, not-there, sends}
 use Rattle.payloads.proofs.on_graft.graft_actions.Goals as goal
 

@@ -1,15 +1,8 @@
 -- `graft_notes` meets its contract: nothing is asked for, nothing is cached, the send is taken, or the record takes the note or not.
-use Rattle.std.proofs.Common.{arith, true, false, ap, sym, ◌∙◌, ◌≡◌, ◌+◌, ℕ, length, Option}
-use Rattle.storage.specs.Rows.Ident.{id_of}
-use Rattle.storage.specs.declared.rows.id.Id.{Id}
-use Rattle.decide.specs.Settled.{settled}
-use Rattle.protocol.specs.State.{State}
-use Rattle.block.specs.Views.{shown}
+use Rattle.payloads.proofs.Words.{arith, true, false, ap, sym, ◌∙◌, ◌≡◌, ◌+◌, ℕ, length, Option, id_of, Id, settled, State, shown, links-few, settled-up, settled-low, settled-takes}
 use Rattle.payloads.specs.OnGraft.{after_graft}
-use Rattle.block.proofs.ViewLaws.{links-few}
 use Rattle.block.proofs.LookupLaws.{value-missed, value-there}
 use Rattle.payloads.proofs.OnGraftLaws.{first-taken, length-only, length-missed, length-taken, length-noted, length-full}
-use Rattle.steps.proofs.AtRestLaws.{settled-up, settled-low, settled-takes}
 use Rattle.payloads.proofs.on_graft.graft_notes.Goals as goal
 use Rattle.payloads.proofs.on_graft.graft_notes.Goals.{Start}
 

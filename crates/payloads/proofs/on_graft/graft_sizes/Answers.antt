@@ -1,12 +1,8 @@
 -- `graft_sizes` meets its contract: the record alone grows.
-use Rattle.std.proofs.Common.{arith, ap, sym, ◌∙◌, ◌≡◌, ◌+◌, ℕ, length}
+use Rattle.payloads.proofs.Words.{arith, ap, sym, ◌∙◌, ◌≡◌, ◌+◌, ℕ, length, settled, sizes_of, sized_recorded, shown, settled-up, settled-low, same_dropped}
 use Rattle.postcard.specs.Values.{wanted_value}
-use Rattle.decide.specs.Settled.{settled}
-use Rattle.decide.specs.Sizes.{sizes_of, sized_recorded}
-use Rattle.block.specs.Views.{shown}
 use Rattle.payloads.specs.OnGraft.{after_graft}
 use Rattle.payloads.proofs.OnGraftLaws.{graft-sizes, recorded-of}
-use Rattle.steps.proofs.AtRestLaws.{settled-up, settled-low, same_dropped}
 use Rattle.payloads.proofs.on_graft.graft_sizes.Goals as goal
 
 pub overflow_add-sizes : goal.overflow_add-sizes

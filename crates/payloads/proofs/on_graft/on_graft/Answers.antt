@@ -1,18 +1,10 @@
 -- `on_graft` meets its contract: the mark, and what is noted behind it.
-use Rattle.std.proofs.Common.{arith, true, false, ap, sym, ◌∙◌, ◌≡◌, ℕ, List, subst, Option, Some}
-use Rattle.storage.specs.Rows.Ident.{id_of}
-use Rattle.storage.specs.declared.rows.id.Id.{Id}
+use Rattle.payloads.proofs.Words.{arith, true, false, ap, sym, ◌∙◌, ◌≡◌, ℕ, List, Option, Some, id_of, Id, State, get, Notable, fits, state, same-state, links-few}
+use Rattle.std.proofs.Common.{subst}
 use Rattle.postcard.specs.declared.units.Round.{Round}
-use Rattle.protocol.specs.State.{State}
-use Rattle.time_cache.specs.TimeCache.{get}
 use Rattle.block.specs.Caches.CachedReads.{RoundOf}
-use Rattle.steps.specs.Record.{Notable}
-use Rattle.protocol.specs.Whole.{fits}
 use Rattle.steps.specs.Pushes.Noted.{noted_state}
-use Rattle.block.specs.Panels.{state}
 use Rattle.payloads.specs.OnGraft.{after_graft}
-use Rattle.block.proofs.PanelLaws.{same-state}
-use Rattle.block.proofs.ViewLaws.{links-few}
 use Rattle.payloads.proofs.OnGraftLaws.{first-taken, graft-only, graft-missed, graft-still, graft-noted, graft-notable}
 use Rattle.payloads.proofs.on_graft.on_graft.Goals as goal
 use Rattle.payloads.proofs.on_graft.on_graft.Goals.{After-round_of_cached, After-takes}

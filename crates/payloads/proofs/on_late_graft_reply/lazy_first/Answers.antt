@@ -1,11 +1,8 @@
 -- `lazy_first` meets its contract: by the link of the first sender, and the two tests.
-use Rattle.std.proofs.Common.{◌∙◌, ap, sym, ℕ, Bool, not, ◌&&◌, subst, Option}
+use Rattle.payloads.proofs.Words.{◌∙◌, ap, sym, ℕ, Bool, not, ◌&&◌, Option, has, eager_in, LinkIf, shown}
+use Rattle.std.proofs.Common.{subst}
 use Rattle.std.proofs.lemmas.Bool.{not-true, not-false}
-use Rattle.storage.specs.Lists.Map.{has}
-use Rattle.protocol.specs.Links.{eager_in}
 use Rattle.block.specs.Caches.GraftSteps.{grafts_at}
-use Rattle.block.specs.Found.{LinkIf}
-use Rattle.block.specs.Views.{shown}
 use Rattle.payloads.proofs.OnLateGraftReplyLaws.{link-eager, stranger-lazy, second-no}
 use Rattle.payloads.proofs.on_late_graft_reply.lazy_first.Goals as goal
 use Rattle.payloads.proofs.on_late_graft_reply.lazy_first.Goals.{then-is_grafted-via-then-is_grafted, then-is_grafted-via-else-is_grafted+then-not-link}

@@ -1,6 +1,4 @@
-use Rattle.std.proofs.Common.{◌∙◌, arith}
-use Rattle.block.specs.Views.{shown}
-use Rattle.block.proofs.ViewLaws.{links-few}
+use Rattle.payloads.proofs.Words.{◌∙◌, arith, shown, links-few}
 use Rattle.payloads.proofs.OnLateGraftReplyLaws.{taken-link, taken-stranger}
 use Rattle.payloads.proofs.on_late_graft_reply.takes_back.Goals as goal
 

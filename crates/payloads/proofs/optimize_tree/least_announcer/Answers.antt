@@ -1,11 +1,7 @@
 -- `least_announcer` meets its contract: the least so far, and those that are left.
-use Rattle.std.proofs.Common.{◌≡◌, ◌∙◌, ◌<◌, ◌+◌, ap, sym, arith, drop, length, get_or, List, subst}
-use Rattle.protocol.specs.State.{Hop}
-use Rattle.protocol.specs.Gossips.{least_from}
-use Rattle.block.specs.MissingSteps.{hop, hops_at}
+use Rattle.payloads.proofs.Words.{◌≡◌, ◌∙◌, ◌<◌, ◌+◌, ap, sym, arith, drop, length, get_or, List, Hop, least_from, hop, hops_at, hop_of, shown}
+use Rattle.std.proofs.Common.{subst}
 use Rattle.block.specs.declared.hops.Hop.{Hop as LinkHop}
-use Rattle.block.specs.Found.{hop_of}
-use Rattle.block.specs.Views.{shown}
 use Rattle.payloads.specs.OptimizeTree.{least_of}
 use Rattle.payloads.proofs.OptimizeTreeLaws.{least-begin, least-end, least-closer, least-further}
 use Rattle.payloads.proofs.optimize_tree.least_announcer.Goals as goal

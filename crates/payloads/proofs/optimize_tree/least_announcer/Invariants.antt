@@ -1,9 +1,5 @@
 -- The least so far, and those that are left.
-use Rattle.std.proofs.Common.{◌≡◌, ◌<◌, length, drop}
-use Rattle.block.specs.MissingSteps.{hops_at}
-use Rattle.protocol.specs.Gossips.{least_from}
-use Rattle.block.specs.Found.{hop_of}
-use Rattle.block.specs.Views.{shown}
+use Rattle.payloads.proofs.Words.{◌≡◌, ◌<◌, length, drop, hops_at, least_from, hop_of, shown}
 use Rattle.payloads.specs.OptimizeTree.{least_of}
 use Rattle.payloads.proofs.optimize_tree.least_announcer.Given as goal
 

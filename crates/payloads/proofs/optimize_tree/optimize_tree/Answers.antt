@@ -1,24 +1,17 @@
 -- `optimize_tree` meets its contract: the announcer's mark, then the sender's.
-use Rattle.std.proofs.Common.{◌≡◌, ◌∙◌, ap, sym, true, length, ◌<◌, subst}
-use Rattle.storage.specs.Lists.Base.{ascending}
-use Rattle.storage.specs.Lists.Map.{keys}
-use Rattle.protocol.specs.Links.{add_lazy, is_eager}
-use Rattle.protocol.specs.State.{State}
-use Rattle.block.specs.LinkSteps.{peer_at, link_at, linked}
-use Rattle.block.specs.Panels.{state}
+use Rattle.payloads.proofs.Words.{◌≡◌, ◌∙◌, ap, sym, true, length, ◌<◌, ascending, keys, add_lazy, is_eager, State, peer_at, link_at, linked, state, NumberedLink, same-state}
+use Rattle.std.proofs.Common.{subst}
 use Rattle.block.specs.declared.panel.Panel.{Panel}
-use Rattle.block.specs.declared.links.NumberedLink.{NumberedLink}
-use Rattle.block.proofs.PanelLaws.{same-state}
 use Rattle.steps.proofs.SettledLaws.SizeLaws.{no, yes}
 use Rattle.payloads.proofs.OptimizeTreeLaws.{marked, marked-yes, marked-no, marked-up, marked-low, marked-then}
 use Rattle.payloads.proofs.optimize_tree.optimize_tree.Goals as goal
 use Rattle.payloads.proofs.optimize_tree.optimize_tree.Goals.{After-link, Joined-not-link, then-not-link, else-not-link}
 
 -- whether the announcer is eager
-announcer-mark : (c : After-link) → c.link.result.eager ≡ is_eager (link_at (state c.args.panel.now) c.args.shortcut.announcer.link).value
+announcer-mark : (c : After-link) → c.link.result.eager ≡ is_eager (link_at (state c.args.panel.now) c.args.shortcut.announcer).value
 announcer-mark c =
     ap (λ (k : NumberedLink). k.eager) c.link.ensures
-    ∙ ap (λ (u : State). is_eager (link_at u c.args.shortcut.announcer.link).value) (same-state c.args.panel.now c.view.result c.view.ensures.head c.view.ensures.block)
+    ∙ ap (λ (u : State). is_eager (link_at u c.args.shortcut.announcer).value) (same-state c.args.panel.now c.view.result c.view.ensures.head c.view.ensures.block)
 
 -- the state once the announcer is eager
 between : (c : Joined-not-link) → state c.if-not-link.panel ≡ marked c.args.shortcut (state c.args.panel.now)

@@ -1,11 +1,5 @@
 -- `shortcut_actions` meets its contract: a Prune alone, or a Graft and a Prune.
-use Rattle.std.proofs.Common.{◌∙◌, ap, sym, ℕ, Bool, List, ◌++◌, arith, None}
-use Rattle.postcard.specs.Message.{Prune, Graft, message_bytes}
-use Rattle.postcard.specs.Output.{send_head}
-use Rattle.wire.specs.Encode.Intake.{after}
-use Rattle.wire.proofs.EncodeLaws.IntakeLaws.{after_append}
-use Rattle.block.specs.Views.{shown}
-use Rattle.block.proofs.ViewLaws.{links-few}
+use Rattle.payloads.proofs.Words.{◌∙◌, ap, sym, ℕ, Bool, List, ◌++◌, arith, None, Prune, Graft, message_bytes, send_head, after, after_append, shown, links-few}
 use Rattle.payloads.proofs.OptimizeTreeLaws.{sent-eager, sent-lazy}
 use Rattle.payloads.proofs.optimize_tree.shortcut_actions.Goals as goal
 
@@ -37,7 +31,7 @@ returns g c =
     let v = c.args.view.now in
     let r = c.args.shortcut in
     let h = g.S.Sink.intake c.args.out.now in
-    let a = Asked c.link-announcer.result.peer c.takes-2.result r.announcer.round.0 in
+    let a = Asked c.link-announcer.result.peer c.takes-2.result r.round.0 in
     let b = Alone c.link-sender.result.peer c.takes_prune.result in
     c.encode-3.ensures ∙ ap (after b) c.encode-2.ensures ∙ after_append a b h
     ∙ ap (λ (bs : List ℕ). after bs h) (sym (sent-lazy c.args.call.now r (shown v) c.requires.rest.0.consistent.core.links_up c.requires.rest.1 c.requires.rest.2 c.link-sender.result c.link-announcer.result c.link-sender.ensures c.link-announcer.ensures c.if-announcer.false c.takes-2.result c.takes_prune.result c.takes-2.ensures c.takes_prune.ensures))

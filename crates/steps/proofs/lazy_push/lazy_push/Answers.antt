@@ -1,9 +1,5 @@
 -- `lazy_push` meets its contract.
-use Rattle.std.proofs.Common.{◌∙◌, sym, ap, ◌<◌, length, arith}
-use Rattle.storage.specs.Rows.Ident.{id_of}
-use Rattle.protocol.specs.State.{State}
-use Rattle.block.specs.Panels.{state}
-use Rattle.block.proofs.PanelLaws.{same-state}
+use Rattle.steps.proofs.Words.{◌∙◌, sym, ap, ◌<◌, length, arith, id_of, State, state, same-state}
 use Rattle.steps.proofs.LazyPushLaws.{lazy-take, lazy-skip, lazy-room, lazy-end}
 use Rattle.steps.proofs.lazy_push.lazy_push.Goals as goal
 use Rattle.steps.proofs.lazy_push.lazy_push.Goals.{then-is_lazy_target, else-is_lazy_target}

@@ -1,6 +1,4 @@
-use Rattle.std.proofs.Common.{take}
-use Rattle.storage.specs.Rows.Ident.{id_of}
-use Rattle.block.specs.Panels.{state, Goes}
+use Rattle.steps.proofs.Words.{take, id_of, state, Goes}
 use Rattle.steps.proofs.LazyPushLaws.{lazy_queued}
 use Rattle.steps.proofs.lazy_push.lazy_push.Given as goal
 

@@ -1,12 +1,6 @@
-use Rattle.std.proofs.Common.{arith, ap, sym, ◌∙◌, ◌≡◌, length, ◌∷◌, [], length-append}
-use Rattle.storage.specs.Rows.Ident.{id_of}
-use Rattle.protocol.specs.State.{State}
-use Rattle.block.specs.LinkSteps.{peer_at}
-use Rattle.block.specs.NoteSteps.{note, standing}
-use Rattle.block.specs.Panels.{state}
+use Rattle.steps.proofs.Words.{arith, ap, sym, ◌∙◌, ◌≡◌, length, ◌∷◌, [], length-append, id_of, State, peer_at, note, standing, state, same-state}
 use Rattle.steps.specs.Record.{takes_note}
 use Rattle.block.specs.declared.panel.Panel.{Panel}
-use Rattle.block.proofs.PanelLaws.{same-state}
 use Rattle.steps.proofs.RecordLaws.{noted-yes, state-yes, state-no}
 use Rattle.steps.proofs.note_dropped.note_dropped.Goals as goal
 use Rattle.steps.proofs.note_dropped.note_dropped.Goals.{then-takes_note, else-takes_note, After-takes_note}

@@ -1,8 +1,5 @@
 -- `takes_note`: what the scan tells, and how many the record holds.
-use Rattle.std.proofs.Common.{arith, not, sym, ap, ◌∙◌, ltb-true, ltb-false}
-use Rattle.storage.specs.Rows.Ident.{id_of}
-use Rattle.block.specs.LinkSteps.{peer_at}
-use Rattle.block.specs.Views.{shown}
+use Rattle.steps.proofs.Words.{arith, not, sym, ap, ◌∙◌, ltb-true, ltb-false, id_of, peer_at, shown}
 use Rattle.steps.proofs.RecordLaws.{takes-open, takes-peer, takes-all}
 use Rattle.steps.proofs.note_dropped.takes_note.Goals as goal
 use Rattle.steps.proofs.note_dropped.takes_note.Goals.{then-scan-lt-MAX_DROPPED_PER_PEER, else-scan-lt-MAX_DROPPED_PER_PEER}

@@ -1,9 +1,5 @@
 -- `evict_actions`: those of the eviction; where a first event evicts before it, its schedule alone.
-use Rattle.std.proofs.Common.{List, ap, sym, ◌∙◌, ℕ}
-use Rattle.storage.specs.Lists.Base.{concat_map}
-use Rattle.postcard.specs.Message.{Action, action_bytes}
-use Rattle.wire.specs.Encode.Intake.{after}
-use Rattle.block.specs.Views.{shown}
+use Rattle.steps.proofs.Words.{List, ap, sym, ◌∙◌, ℕ, concat_map, Action, action_bytes, after, shown}
 use Rattle.steps.proofs.AtRestLaws.{in_order}
 use Rattle.steps.proofs.ActionLaws.{evict-yes, evict-no, one-action, scheduled}
 use Rattle.steps.proofs.ForgottenLaws.{init-of}

@@ -1,6 +1,5 @@
 -- `evict_sizes` meets its contract: what is later stays.
-use Rattle.std.proofs.Common.{◌∙◌}
-use Rattle.block.specs.Views.{shown}
+use Rattle.steps.proofs.Words.{◌∙◌, shown}
 use Rattle.steps.proofs.EvictStepLaws.{evict-then}
 use Rattle.steps.proofs.on_evict_cache_timer.evict_sizes.Goals as goal
 

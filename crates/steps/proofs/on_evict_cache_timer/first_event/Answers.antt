@@ -1,8 +1,6 @@
 -- `first_event` meets its contract: where the flag stands nothing is left to do, and else eviction and the flag are.
-use Rattle.std.proofs.Common.{true, refl, ap, sym, ◌∙◌, ◌≡◌, subst}
-use Rattle.protocol.specs.State.{with_init}
-use Rattle.decide.specs.StateAfter.{first_state}
-use Rattle.block.specs.Panels.{state, AtRest}
+use Rattle.steps.proofs.Words.{true, refl, ap, sym, ◌∙◌, ◌≡◌, with_init, first_state, state, AtRest}
+use Rattle.std.proofs.Common.{subst}
 use Rattle.steps.proofs.EvictStepLaws.{first-still, first-done, rest-first}
 use Rattle.steps.proofs.on_evict_cache_timer.first_event.Goals as goal
 use Rattle.steps.proofs.on_evict_cache_timer.first_event.Goals.{After-flag_init}

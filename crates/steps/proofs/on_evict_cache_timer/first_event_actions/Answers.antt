@@ -1,10 +1,6 @@
 -- `first_event_actions`: those of the eviction, unless a first event was.
-use Rattle.std.proofs.Common.{List, ap, sym, ◌∙◌, ℕ}
-use Rattle.storage.specs.Lists.Base.{concat_map}
-use Rattle.postcard.specs.Message.{Action, action_bytes}
-use Rattle.wire.specs.Encode.Intake.{after}
+use Rattle.steps.proofs.Words.{List, ap, sym, ◌∙◌, ℕ, concat_map, Action, action_bytes, after, shown}
 use Rattle.wire.proofs.EncodeLaws.IntakeLaws.{after_nil}
-use Rattle.block.specs.Views.{shown}
 use Rattle.steps.proofs.AtRestLaws.{in_order}
 use Rattle.steps.proofs.ActionLaws.{first-yes, first-no, no-action}
 use Rattle.steps.proofs.ForgottenLaws.{init-of}

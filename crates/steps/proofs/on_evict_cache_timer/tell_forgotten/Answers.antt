@@ -1,6 +1,5 @@
 -- `tell_forgotten`: where no row is due, there is nothing to tell.
-use Rattle.std.proofs.Common.{sym, ◌∙◌}
-use Rattle.block.specs.Views.{shown}
+use Rattle.steps.proofs.Words.{sym, ◌∙◌, shown}
 use Rattle.steps.proofs.ForgottenLaws.{told-none}
 use Rattle.steps.proofs.on_evict_cache_timer.tell_forgotten.Goals as goal
 

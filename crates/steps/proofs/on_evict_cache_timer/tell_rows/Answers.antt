@@ -1,13 +1,8 @@
 -- `tell_rows`: one identifier after the other.
-use Rattle.std.proofs.Common.{◌≡◌, ◌<◌, ℕ, List, refl, sym, ap, ◌∙◌, map, subst, All}
+use Rattle.steps.proofs.Words.{◌≡◌, ◌<◌, ℕ, List, refl, sym, ap, ◌∙◌, map, All, concat_map, id_of, action_bytes, after, forgotten_actions, shown}
+use Rattle.std.proofs.Common.{subst}
 use Rattle.std.proofs.lemmas.List.Elements.{All-get_or}
-use Rattle.storage.specs.Lists.Base.{concat_map}
-use Rattle.storage.specs.Rows.Ident.{id_of}
-use Rattle.postcard.specs.Message.{action_bytes}
-use Rattle.wire.specs.Encode.Intake.{after}
 use Rattle.block.specs.Caches.CachedReads.{row_id}
-use Rattle.decide.specs.Settled.{forgotten_actions}
-use Rattle.block.specs.Views.{shown}
 use Rattle.steps.proofs.ForgottenLaws.{told_from, told-all, row-same, rows-done}
 use Rattle.steps.proofs.on_evict_cache_timer.tell_rows.Given.{Over}
 use Rattle.steps.proofs.on_evict_cache_timer.tell_rows.Goals as goal

@@ -1,6 +1,5 @@
 -- `tell_rows`: what the rows that are left tell completes what is to be told.
-use Rattle.std.proofs.Common.{◌≡◌}
-use Rattle.wire.specs.Encode.Intake.{after}
+use Rattle.steps.proofs.Words.{◌≡◌, after}
 use Rattle.steps.proofs.ForgottenLaws.{told_from}
 use Rattle.steps.proofs.on_evict_cache_timer.tell_rows.Given as goal
 

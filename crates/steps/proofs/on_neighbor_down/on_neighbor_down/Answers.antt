@@ -1,9 +1,6 @@
 -- `on_neighbor_down` meets its contract: a neighbour goes, and of a stranger there is nothing that could go.
-use Rattle.std.proofs.Common.{◌≡◌, refl, false, subst}
-use Rattle.protocol.specs.Links.{is_neighbour}
-use Rattle.protocol.specs.State.{State}
-use Rattle.block.specs.Panels.{state}
-use Rattle.block.proofs.PanelLaws.{same-state}
+use Rattle.steps.proofs.Words.{◌≡◌, refl, false, is_neighbour, State, state, same-state}
+use Rattle.std.proofs.Common.{subst}
 use Rattle.steps.proofs.NeighborLaws.{down-away}
 use Rattle.steps.proofs.on_neighbor_down.on_neighbor_down.Goals as goal
 

@@ -1,13 +1,9 @@
 -- `on_neighbor_up` meets its contract: a neighbour is marked, and a new one is a link more.
-use Rattle.std.proofs.Common.{◌∙◌, subst}
-use Rattle.storage.specs.Lists.Map.{keys, insert}
+use Rattle.steps.proofs.Words.{◌∙◌, keys, insert, State, linked, state, same-state}
+use Rattle.std.proofs.Common.{subst}
 use Rattle.storage.specs.Rows.Sorted.{Here, Between}
-use Rattle.protocol.specs.State.{State}
 use Rattle.protocol.specs.Links.{link_up}
-use Rattle.block.specs.LinkSteps.{linked}
 use Rattle.block.proofs.LinkLaws.{neighbour-between}
-use Rattle.block.specs.Panels.{state}
-use Rattle.block.proofs.PanelLaws.{same-state}
 use Rattle.steps.proofs.NeighborLaws.{up-room}
 use Rattle.steps.proofs.on_neighbor_up.on_neighbor_up.Goals as goal
 use Rattle.steps.proofs.on_neighbor_up.on_neighbor_up.Goals.{In-Ok}

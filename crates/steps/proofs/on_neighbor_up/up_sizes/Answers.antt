@@ -1,8 +1,6 @@
 -- `up_sizes` meets its contract: by whether the peer has a link.
-use Rattle.std.proofs.Common.{◌≡◌, ◌∙◌, ap, sym, not, arith, ◌+◌, subst}
-use Rattle.protocol.specs.Links.{is_neighbour}
-use Rattle.decide.specs.Sizes.{Sizes, sized_links}
-use Rattle.block.specs.Views.{shown}
+use Rattle.steps.proofs.Words.{◌≡◌, ◌∙◌, ap, sym, not, arith, ◌+◌, is_neighbour, Sizes, sized_links, shown}
+use Rattle.std.proofs.Common.{subst}
 use Rattle.steps.proofs.SettledLaws.FewLaws.{Few, few-now}
 use Rattle.steps.proofs.NeighborLaws.{found-neighbour, up-there, up-new}
 use Rattle.steps.proofs.on_neighbor_up.up_sizes.Goals as goal

@@ -1,15 +1,9 @@
 -- The entry that is found, if there is one.
-use Rattle.std.proofs.Common.{None, ◌≡◌, ◌∙◌, refl}
+use Rattle.steps.proofs.Words.{None, ◌≡◌, ◌∙◌, refl, id_of, get, State, settled, state, same-state}
 use Rattle.std.proofs.Math.Path.{subst}
-use Rattle.storage.specs.Rows.Ident.{id_of}
-use Rattle.time_cache.specs.TimeCache.{get}
-use Rattle.protocol.specs.State.{State}
-use Rattle.decide.specs.Settled.{settled}
-use Rattle.block.specs.Panels.{state}
 use Rattle.steps.specs.Settled.Then.{no_grafts}
 use Rattle.steps.specs.Shared.{HeldAt}
 use Rattle.steps.proofs.AtRestLaws.{grafted-order}
-use Rattle.block.proofs.PanelLaws.{same-state}
 use Rattle.steps.proofs.SetFirstLaws.{first-some, first-none}
 use Rattle.steps.proofs.set_first.set_first.Goals as goal
 use Rattle.steps.proofs.set_first.set_first.Goals.{In-Some}

@@ -1,6 +1,6 @@
 -- `held_then`: what `get` found, and the time of the row.
-use Rattle.std.proofs.Common.{sym, ap, ◌∙◌, subst, lt-ltb, le-ltb, ltb, Option}
-use Rattle.storage.specs.Rows.Ident.{id_of}
+use Rattle.steps.proofs.Words.{sym, ap, ◌∙◌, lt-ltb, le-ltb, ltb, Option, id_of}
+use Rattle.std.proofs.Common.{subst}
 use Rattle.time_cache.specs.Steps.{GotIs, GotAt}
 use Rattle.time_cache.specs.declared.cache.Found.{Found}
 use Rattle.steps.proofs.SettledLaws.ThenLaws.{there-still, there-later, there-gone, nowhere}

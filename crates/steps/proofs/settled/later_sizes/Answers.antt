@@ -1,6 +1,5 @@
 -- `later_sizes`: each number is that of the entries that expire later.
-use Rattle.std.proofs.Common.{refl, sym, ◌∙◌}
-use Rattle.block.specs.Views.{shown}
+use Rattle.steps.proofs.Words.{refl, sym, ◌∙◌, shown}
 use Rattle.steps.proofs.EvictStepLaws.{evict-lengths}
 use Rattle.steps.proofs.SettledLaws.SizeLaws.{sizes-later}
 use Rattle.steps.proofs.settled.later_sizes.Goals as goal

@@ -1,6 +1,5 @@
 -- `sizes_then`: with `init` set the numbers stand, and else those of what is later.
-use Rattle.std.proofs.Common.{sym, ◌∙◌}
-use Rattle.block.specs.Views.{shown}
+use Rattle.steps.proofs.Words.{sym, ◌∙◌, shown}
 use Rattle.steps.proofs.SettledLaws.ThenLaws.{init-of}
 use Rattle.steps.proofs.EvictStepLaws.{evict-lengths}
 use Rattle.steps.proofs.SettledLaws.SizeLaws.{sizes-still, sizes-evicted}

@@ -1,8 +1,6 @@
 -- `take_in` meets its contract: the message is marked received, and then cached.
-use Rattle.std.proofs.Common.{arith, ◌∙◌}
-use Rattle.storage.specs.Rows.Ident.{id_of}
+use Rattle.steps.proofs.Words.{arith, ◌∙◌, id_of, state}
 use Rattle.block.specs.View.{state_of}
-use Rattle.block.specs.Panels.{state}
 use Rattle.steps.proofs.AtRestLaws.{received-order}
 use Rattle.steps.proofs.Takings.{times-fit, order-then, most-received, most-then, bytes-then, taken-then}
 use Rattle.steps.proofs.take_in.take_in.Goals as goal

@@ -1,10 +1,7 @@
 -- The numbers of the settled state, and what a message that is taken in changes of them.
-use Rattle.std.proofs.Common.{sym, arith, not}
+use Rattle.steps.proofs.Words.{sym, arith, not, id_of, settled, shown}
 use Rattle.std.proofs.Math.Path.{subst}
-use Rattle.storage.specs.Rows.Ident.{id_of}
-use Rattle.decide.specs.Settled.{settled}
 use Rattle.steps.specs.Shared.{sizes_value}
-use Rattle.block.specs.Views.{shown}
 use Rattle.steps.proofs.SettledLaws.FewLaws.{Few, few-then}
 use Rattle.steps.proofs.TakeInLaws.{byte-small, settled-rest, taken-over, taken-new, old-least}
 use Rattle.steps.proofs.take_in.taken_sizes.Goals as goal

@@ -1,7 +1,5 @@
 -- `create`: the four questions in order, then the header of `State::new`.
-use Rattle.std.proofs.Common.{ap, not, ◌≡◌, refl, sym, subst, true, ◌≤◌, arith, length}
-use Rattle.protocol.specs.State.{Created, size_in_range, durations_in_range, limits_in_range, block_need}
-use Rattle.block.specs.View.{settings_of, limits_of}
+use Rattle.whole.proofs.Words.{ap, not, ◌≡◌, refl, sym, subst, true, ◌≤◌, arith, length, Created, size_in_range, durations_in_range, limits_in_range, block_need, settings_of, limits_of}
 use Rattle.block.specs.Header.{Stored}
 use Rattle.block.specs.declared.head.Live.{Live}
 use Rattle.whole.specs.Creation.{Creates}

@@ -1,6 +1,5 @@
 -- `area_holds`: each test is a part of question 17 (`Holds`).
-use Rattle.std.proofs.Common.{ap, not, sym, List, ℕ, ◌+◌, ◌*◌, arith, length, get_or}
-use borrow.Author.Tests.{not-true, not-false}
+use Rattle.whole.proofs.Words.{ap, not, sym, List, ℕ, ◌+◌, ◌*◌, arith, length, get_or, not-true, not-false}
 use Rattle.whole.specs.States.Area.{kept, area_holds}
 use Rattle.whole.specs.States.Calls.{Zeros, SlotsHold}
 use Rattle.whole.proofs.StatesLaws.Leaves.{told-yes, told-no, told_same}

@@ -1,6 +1,5 @@
 -- `ask_area`: the two tests in their order.
-use Rattle.std.proofs.Common.{not, refl, sym, ap, ◌∙◌, arith}
-use borrow.Author.Tests.{not-true, not-false}
+use Rattle.whole.proofs.Words.{not, refl, sym, ap, ◌∙◌, arith, not-true, not-false}
 use Rattle.whole.specs.States.Area.{kept}
 use Rattle.whole.specs.States.Calls.{area_asked}
 use Rattle.whole.proofs.StatesLaws.HoldsLaws.{holds_of}

@@ -1,9 +1,7 @@
 -- `go_back`: the tests in their order, and then the block and the counts are read (`returns-0`).
-use Rattle.std.proofs.Common.{◌≡◌, sym, ap, ◌∙◌, subst, true, List, ℕ, ◌+◌, ◌*◌, ◌-◌, ◌≤◌, ◌<◌, arith, length, take, drop}
+use Rattle.whole.proofs.Words.{◌≡◌, sym, ap, ◌∙◌, subst, true, List, ℕ, ◌+◌, ◌*◌, ◌-◌, ◌≤◌, ◌<◌, arith, length, take, drop, put, length_part, put_all, Counts}
 use Rattle.std.proofs.lemmas.Result.{err_from_is_err_and}
-use Rattle.storage.specs.Rows.Part.{part, put}
-use Rattle.storage.proofs.RowsLaws.Parts.{length_part, put_all}
-use Rattle.protocol.specs.State.{Counts}
+use Rattle.storage.specs.Rows.Part.{part}
 use Rattle.whole.specs.Held.{whole_block}
 use Rattle.whole.specs.States.Area.{kept, area_holds}
 use Rattle.whole.specs.States.Calls.{Placed, Returns, counts_of}

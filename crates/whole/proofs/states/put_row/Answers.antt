@@ -1,7 +1,5 @@
 -- `put_row`: four puts, each where the one before it ends, are one.
-use Rattle.std.proofs.Common.{ap, ◌∙◌, ◌+◌}
-use Rattle.storage.specs.Rows.Part.{put}
-use Rattle.storage.specs.Rows.Digits.{le_bytes}
+use Rattle.whole.proofs.Words.{ap, ◌∙◌, ◌+◌, put, le_bytes}
 use Rattle.storage.proofs.RowsLaws.Digits.{length-le_bytes}
 use Rattle.whole.proofs.StatesLaws.Leaves.{four-puts}
 use Rattle.whole.proofs.states.put_row.Goals as goal

@@ -1,10 +1,6 @@
 -- `save`: the tests in their order, and then the row, the block and the number are put (`saves-0`).
-use Rattle.std.proofs.Common.{◌≡◌, sym, ap, ◌∙◌, subst, true, List, [], ◌∷◌, ℕ, ◌+◌, ◌-◌, ◌*◌, ◌≤◌, ◌<◌, arith, length, set}
+use Rattle.whole.proofs.Words.{◌≡◌, sym, ap, ◌∙◌, subst, true, List, [], ◌∷◌, ℕ, ◌+◌, ◌-◌, ◌*◌, ◌≤◌, ◌<◌, arith, length, set, Entry, entry, put, length-put, set-put, Counts}
 use Rattle.std.proofs.lemmas.Result.{err_from_is_err_and}
-use Rattle.storage.specs.Lists.Map.{Entry, entry}
-use Rattle.storage.specs.Rows.Part.{put}
-use Rattle.storage.proofs.RowsLaws.Parts.{length-put, set-put}
-use Rattle.protocol.specs.State.{Counts}
 use Rattle.whole.specs.Held.{whole_block}
 use Rattle.whole.specs.States.Kept.{Kept}
 use Rattle.whole.specs.States.Area.{kept, row_bytes, area_holds}

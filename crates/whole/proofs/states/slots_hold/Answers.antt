@@ -1,7 +1,5 @@
 -- `slots_hold`: the first i names differ, and the first i blocks are whole.
-use Rattle.std.proofs.Common.{not, ◌≡◌, sym, ap, ◌∙◌, ℕ, ◌+◌, ◌*◌, ◌-◌, arith, rules, take, drop}
-use borrow.Author.Tests.{not-true, not-false}
-use Rattle.storage.proofs.ListsLaws.MapLaws.{true≢}
+use Rattle.whole.proofs.Words.{not, ◌≡◌, sym, ap, ◌∙◌, ℕ, ◌+◌, ◌*◌, ◌-◌, arith, rules, take, drop, not-true, not-false, true≢}
 use Rattle.storage.specs.Rows.Part.{part}
 use Rattle.whole.specs.Held.{whole_block}
 use Rattle.whole.specs.States.Area.{name_at}

@@ -1,7 +1,5 @@
 -- `adjoin`: the contents from row i on adjoin from `at` just if all adjoin from 0.
-use Rattle.std.proofs.Common.{refl, sym, ◌∙◌, arith}
-use Rattle.storage.specs.Rows.Rows.{rows}
-use Rattle.storage.proofs.RowsLaws.Rows.{length-rows}
+use Rattle.whole.proofs.Words.{refl, sym, ◌∙◌, arith, rows, length-rows}
 use Rattle.whole.proofs.ContentLaws.{four-at, adjoin-more, adjoin-not, adjoin-end}
 use Rattle.whole.proofs.tables.adjoin.Goals as goal
 

@@ -1,7 +1,5 @@
 -- `adjoin`: the contents from row i on adjoin from `at` just if all adjoin from 0.
-use Rattle.std.proofs.Common.{◌≡◌, drop}
-use Rattle.storage.specs.Rows.Rows.{rows}
-use Rattle.block.specs.Sound.{adjoin}
+use Rattle.whole.proofs.Words.{◌≡◌, drop, rows, adjoin}
 use Rattle.whole.proofs.tables.adjoin.Given as goal
 
 abbrev pub invariant-loop-i : goal.invariant-loop-i

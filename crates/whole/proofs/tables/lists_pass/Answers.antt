@@ -1,7 +1,5 @@
 -- `lists_pass`: the lists of the first i rows pass.
-use Rattle.std.proofs.Common.{refl, sym, ap, ◌∙◌, not, [], ◌-◌, arith, drop}
-use Rattle.storage.specs.Rows.Rows.{rows}
-use Rattle.storage.proofs.RowsLaws.Rows.{length-rows}
+use Rattle.whole.proofs.Words.{refl, sym, ap, ◌∙◌, not, [], ◌-◌, arith, drop, rows, length-rows}
 use Rattle.whole.specs.Held.{all_lists}
 use Rattle.whole.proofs.Tests.{no, yes}
 use Rattle.whole.proofs.AllLaws.{all_none, all_keep, all-not, all_done, list_at}

@@ -1,8 +1,6 @@
 -- `lists_pass`: the lists of the first i rows pass.
-use Rattle.std.proofs.Common.{◌≡◌, Bool, true, List, ℕ, ◌-◌, take, drop}
+use Rattle.whole.proofs.Words.{◌≡◌, Bool, true, List, ℕ, ◌-◌, take, drop, all, rows}
 use Rattle.std.specs.Fn.{FnReturnsAt}
-use Rattle.storage.specs.Lists.Base.{all}
-use Rattle.storage.specs.Rows.Rows.{rows}
 use Rattle.whole.proofs.tables.lists_pass.Given as goal
 
 abbrev pub invariant-loop-i : goal.invariant-loop-i

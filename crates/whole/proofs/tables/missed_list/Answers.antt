@@ -1,6 +1,5 @@
 -- `missed_list`: the count, then the numbers.
-use Rattle.std.proofs.Common.{◌≡◌, sym, ap, ◌∙◌, true, ◌&&◌, ℕ, ◌+◌, ◌-◌, arith, le-leb, lt-ltb, leb, ltb, take, drop, get_or}
-use Rattle.storage.specs.Lists.Base.{once}
+use Rattle.whole.proofs.Words.{◌≡◌, sym, ap, ◌∙◌, true, ◌&&◌, ℕ, ◌+◌, ◌-◌, arith, le-leb, lt-ltb, leb, ltb, take, drop, get_or, once}
 use Rattle.whole.specs.Held.{all_below, numbers_name}
 use Rattle.whole.specs.Parts.{missed_list}
 use Rattle.whole.proofs.NumberLaws.{tells-numbers}

@@ -1,8 +1,6 @@
 -- `named_lengths`: the sum over the first i entries, at most 2^32 for each.
-use Rattle.std.proofs.Common.{◌≡◌, refl, sym, ap, ◌∙◌, subst, ℕ, ◌+◌, ◌<◌, arith, rules, get_or, take_all}
+use Rattle.whole.proofs.Words.{◌≡◌, refl, sym, ap, ◌∙◌, subst, ℕ, ◌+◌, ◌<◌, arith, rules, get_or, take_all, rows, refs, places}
 use Rattle.storage.specs.Lists.Base.{sum}
-use Rattle.storage.specs.Rows.Rows.{rows}
-use Rattle.storage.specs.Refs.Refs.{refs, places}
 use Rattle.storage.proofs.RefsLaws.Places.{length-places, place_at}
 use Rattle.whole.specs.Parts.{length_at}
 use Rattle.whole.proofs.ContentLaws.{four-at, sum_more}

@@ -1,8 +1,5 @@
 -- `named_lengths`: the sum over the first i entries, at most 2^32 for each.
-use Rattle.std.proofs.Common.{◌≡◌, ◌*◌, ◌≤◌, take}
-use Rattle.storage.specs.Lists.Base.{sum}
-use Rattle.storage.specs.Rows.Rows.{rows}
-use Rattle.storage.specs.Refs.Refs.{refs, places}
+use Rattle.whole.proofs.Words.{◌≡◌, ◌*◌, ◌≤◌, take, sum, rows, refs, places}
 use Rattle.whole.specs.Parts.{length_at}
 use Rattle.whole.proofs.tables.named_lengths.Given as goal
 

@@ -1,7 +1,5 @@
 -- `encode_entries`: one entry after the other.
-use Rattle.std.proofs.Common.{◌∷◌, ap, sym, ◌∙◌, drop, ◌+◌}
-use Rattle.protocol.specs.State.{Note}
-use Rattle.block.specs.Views.{shown}
+use Rattle.announcements.proofs.Words.{◌∷◌, ap, sym, ◌∙◌, drop, ◌+◌, Note, shown}
 use Rattle.wire.proofs.EncodeLaws.IhavesLaws.{entry-same, entries-done}
 use Rattle.announcements.specs.QueuedRows.{ihave_of, ihaves_at}
 use Rattle.announcements.proofs.OnDispatchLaws.RowLaws.{at-rest, rest-end}

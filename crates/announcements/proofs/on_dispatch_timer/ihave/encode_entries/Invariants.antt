@@ -1,9 +1,6 @@
 -- `encode_entries`: the entries that are left complete what is to be written.
-use Rattle.std.proofs.Common.{◌≡◌, drop}
-use Rattle.storage.specs.Lists.Base.{concat_map}
-use Rattle.postcard.specs.Message.{ihave_bytes}
+use Rattle.announcements.proofs.Words.{◌≡◌, drop, concat_map, ihave_bytes, shown}
 use Rattle.wire.specs.Encode.Intake.{after}
-use Rattle.block.specs.Views.{shown}
 use Rattle.announcements.specs.QueuedRows.{ihaves_at}
 use Rattle.announcements.proofs.on_dispatch_timer.ihave.encode_entries.Given as goal
 

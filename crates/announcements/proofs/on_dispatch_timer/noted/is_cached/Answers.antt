@@ -1,8 +1,6 @@
 -- `is_cached` meets its contract.
-use Rattle.std.proofs.Common.{◌≡◌, ◌+◌, ◌-◌, ◌<◌, bit_and, length, get_or, ap, ◌∙◌, sym, arith}
+use Rattle.announcements.proofs.Words.{◌≡◌, ◌+◌, ◌-◌, ◌<◌, bit_and, length, get_or, ap, ◌∙◌, sym, arith, shown, queue-few}
 use Rattle.std.proofs.lemmas.Nat.{and_le_r}
-use Rattle.block.specs.Views.{shown}
-use Rattle.block.proofs.NoteRowLaws.{queue-few}
 use Rattle.announcements.specs.QueuedRows.{held_then}
 use Rattle.announcements.proofs.OnDispatchLaws.FoundLaws.{found-next}
 use Rattle.announcements.proofs.on_dispatch_timer.noted.is_cached.Goals as goal

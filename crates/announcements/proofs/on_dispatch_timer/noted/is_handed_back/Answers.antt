@@ -1,11 +1,7 @@
 -- `is_handed_back` meets its contract.
-use Rattle.std.proofs.Common.{◌≡◌, ℕ, ◌*◌, ◌<◌, length, get_or, min, sym, ap, ◌∙◌, arith}
+use Rattle.announcements.proofs.Words.{◌≡◌, ℕ, ◌*◌, ◌<◌, length, get_or, min, sym, ap, ◌∙◌, arith, peer_at, note_at, shown, queue-few}
 use lib.ListN.{length-map}
-use Rattle.block.specs.LinkSteps.{peer_at}
 use Rattle.steps.specs.Groups.{part}
-use Rattle.block.specs.NoteSteps.{note_at}
-use Rattle.block.specs.Views.{shown}
-use Rattle.block.proofs.NoteRowLaws.{queue-few}
 use Rattle.announcements.proofs.PerMessageLaws.{per-message}
 use Rattle.announcements.specs.QueuedRows.{held_then, ihave_of}
 use Rattle.announcements.proofs.OnDispatchLaws.QueueLaws.{queued-few}

@@ -1,5 +1,4 @@
-use Rattle.std.proofs.Common.{◌≡◌}
-use Rattle.block.specs.Views.{shown}
+use Rattle.announcements.proofs.Words.{◌≡◌, shown}
 use Rattle.announcements.specs.QueuedRows.{held_then}
 use Rattle.announcements.proofs.OnDispatchLaws.BatchLaws.{after}
 use Rattle.announcements.proofs.on_dispatch_timer.noted.is_handed_back.Given as goal

@@ -1,9 +1,5 @@
 -- `is_recorded` meets its contract.
-use Rattle.std.proofs.Common.{sym, ap, ◌∙◌, eqb}
-use Rattle.storage.specs.Rows.Ident.{id_of}
-use Rattle.postcard.specs.Message.{Ihave}
-use Rattle.protocol.specs.State.{Note}
-use Rattle.block.specs.Views.{shown}
+use Rattle.announcements.proofs.Words.{sym, ap, ◌∙◌, eqb, id_of, Ihave, Note, shown}
 use Rattle.announcements.proofs.OnDispatchLaws.RowLaws.{any-start, any-found, any-not}
 use Rattle.announcements.proofs.on_dispatch_timer.noted.is_recorded.Goals as goal
 

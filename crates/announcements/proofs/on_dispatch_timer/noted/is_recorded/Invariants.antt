@@ -1,6 +1,4 @@
-use Rattle.std.proofs.Common.{take, ◌≡◌, false}
-use Rattle.storage.specs.Rows.Ident.{id_of}
-use Rattle.block.specs.Views.{shown}
+use Rattle.announcements.proofs.Words.{take, ◌≡◌, false, id_of, shown}
 use Rattle.announcements.specs.QueuedRows.{ihaves_at, among}
 use Rattle.announcements.proofs.on_dispatch_timer.noted.is_recorded.Given as goal
 

@@ -1,10 +1,6 @@
 -- `mark` meets its contract.
-use Rattle.std.proofs.Common.{rules, ℕ, ◌+◌, ◌<◌, sym, ap, ◌∙◌, false, take, set, List, inl, inr, ⊎_elim, subst, eqb}
+use Rattle.announcements.proofs.Words.{rules, ℕ, ◌+◌, ◌<◌, sym, ap, ◌∙◌, false, take, set, List, inl, inr, ⊎_elim, subst, eqb, id_of, Ihave, Note, shown}
 use Rattle.std.proofs.Math.Seq.{take_all}
-use Rattle.storage.specs.Rows.Ident.{id_of}
-use Rattle.postcard.specs.Message.{Ihave}
-use Rattle.protocol.specs.State.{Note}
-use Rattle.block.specs.Views.{shown}
 use Rattle.announcements.specs.Marks.{Covers}
 use Rattle.announcements.specs.QueuedRows.{ihaves_at, among}
 use Rattle.announcements.proofs.OnDispatchLaws.MarkLaws.{low-in, covers-none, covers_more, among-known}

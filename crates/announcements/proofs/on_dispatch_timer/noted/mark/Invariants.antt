@@ -1,5 +1,4 @@
-use Rattle.std.proofs.Common.{take}
-use Rattle.block.specs.Views.{shown}
+use Rattle.announcements.proofs.Words.{take, shown}
 use Rattle.announcements.specs.Marks.{Covers}
 use Rattle.announcements.specs.QueuedRows.{ihaves_at, among}
 use Rattle.announcements.proofs.on_dispatch_timer.noted.mark.Given as goal

@@ -1,6 +1,5 @@
 -- `may_hand_back` meets its contract.
-use Rattle.std.proofs.Common.{arith}
-use Rattle.block.proofs.ViewLaws.{links-few}
+use Rattle.announcements.proofs.Words.{arith, links-few}
 use Rattle.announcements.proofs.on_dispatch_timer.noted.may_hand_back.Goals as goal
 
 pub offset_bounds-call-link : goal.offset_bounds-call-link

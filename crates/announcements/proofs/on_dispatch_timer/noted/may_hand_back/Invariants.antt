@@ -1,5 +1,4 @@
-use Rattle.std.proofs.Common.{ℕ, ◌<◌, ◌≤◌, length, get_or}
-use Rattle.block.specs.Views.{shown}
+use Rattle.announcements.proofs.Words.{ℕ, ◌<◌, ◌≤◌, length, get_or, shown}
 use Rattle.announcements.proofs.on_dispatch_timer.noted.may_hand_back.Given as goal
 
 -- the links before this one take all

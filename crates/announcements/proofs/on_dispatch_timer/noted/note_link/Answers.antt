@@ -1,16 +1,6 @@
 -- `note_link` meets its contract.
-use Rattle.std.proofs.Common.{◌≡◌, ℕ, List, [], ◌∷◌, ◌++◌, ◌+◌, ◌-◌, ◌<◌, length, get_or, take, drop, set, sym, refl, ap, ◌∙◌, arith, true, false, ◌||◌, subst, length-append, length-drop}
-use borrow.Author.Tests.{eqb-false}
+use Rattle.announcements.proofs.Words.{◌≡◌, ℕ, List, [], ◌∷◌, ◌++◌, ◌+◌, ◌-◌, ◌<◌, length, get_or, take, drop, set, sym, refl, ap, ◌∙◌, arith, true, false, ◌||◌, subst, length-append, length-drop, eqb-false, All-same, All-drop, id_of, State, Note, record_full, add_note, peer_at, note_at, shown, links-few}
 use lib.ListN.{length-map}
-use Rattle.std.proofs.lemmas.List.Elements.{All-same, All-drop}
-use Rattle.storage.specs.Rows.Ident.{id_of}
-use Rattle.protocol.specs.State.{State, Note}
-use Rattle.protocol.specs.Push.{record_full}
-use Rattle.decide.specs.RecordGrowth.{add_note}
-use Rattle.block.specs.LinkSteps.{peer_at}
-use Rattle.block.specs.NoteSteps.{note_at}
-use Rattle.block.specs.Views.{shown}
-use Rattle.block.proofs.ViewLaws.{links-few}
 use Rattle.announcements.specs.Marks.{low_of, Covers, Found}
 use Rattle.announcements.specs.QueuedRows.{held_then, ihave_of, ihaves_at, notes_at, among}
 use Rattle.announcements.proofs.OnDispatchLaws.MarkLaws.{low-in, covers-same, covers-clear}

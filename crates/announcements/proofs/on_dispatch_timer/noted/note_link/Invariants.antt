@@ -1,7 +1,5 @@
 -- `note_link`: the record with what is noted so far is that with the rows before this one noted.
-use Rattle.std.proofs.Common.{◌+◌, ◌++◌}
-use Rattle.block.specs.LinkSteps.{peer_at}
-use Rattle.block.specs.Views.{shown}
+use Rattle.announcements.proofs.Words.{◌+◌, ◌++◌, peer_at, shown}
 use Rattle.announcements.specs.Marks.{Covers, Found}
 use Rattle.announcements.specs.QueuedRows.{held_then, notes_at}
 use Rattle.announcements.proofs.OnDispatchLaws.NotedLaws.{known, Holding, Sofar}

@@ -1,18 +1,8 @@
 -- `to_note_in` meets its contract.
-use Rattle.std.proofs.Common.{◌≡◌, ℕ, List, ◌-◌, ◌*◌, ◌<◌, length, get_or, take, drop, min, append-nil, sym, ap, ◌∙◌, arith, All}
-use Rattle.std.proofs.lemmas.List.{length-replicate}
-use Rattle.std.proofs.lemmas.List.Elements.{All-nil, All-same, All-drop}
+use Rattle.announcements.proofs.Words.{◌≡◌, ℕ, List, ◌-◌, ◌*◌, ◌<◌, length, get_or, take, drop, min, append-nil, sym, ap, ◌∙◌, arith, All, length-replicate, All-nil, All-same, All-drop, Ihave, State, add_notes, peer_at, note_at, shown, queue-few, record-few, links-few}
 use lib.ListN.{length-map}
-use Rattle.postcard.specs.Message.{Ihave}
-use Rattle.protocol.specs.State.{State}
-use Rattle.decide.specs.RecordGrowth.{add_notes}
-use Rattle.block.specs.LinkSteps.{peer_at}
-use Rattle.block.specs.NoteSteps.{note_at}
-use Rattle.block.specs.Views.{shown}
 use Rattle.steps.proofs.GroupsLaws.GroupLaws.{apart_of}
-use Rattle.block.proofs.NoteRowLaws.{queue-few, record-few}
 use Rattle.announcements.proofs.PerMessageLaws.{per-message}
-use Rattle.block.proofs.ViewLaws.{links-few}
 use Rattle.announcements.specs.QueuedRows.{held_then, ihave_of, ihaves_at, Mine}
 use Rattle.announcements.proofs.OnDispatchLaws.QueueLaws.{queued-few}
 use Rattle.announcements.proofs.OnDispatchLaws.FoundLaws.{found-none}

@@ -1,6 +1,5 @@
 -- `to_note_in`: the record with what is noted so far is that after the links before this one.
-use Rattle.std.proofs.Common.{◌≡◌, ◌++◌, length, All}
-use Rattle.block.specs.Views.{shown}
+use Rattle.announcements.proofs.Words.{◌≡◌, ◌++◌, length, All, shown}
 use Rattle.announcements.specs.Marks.{Found}
 use Rattle.announcements.specs.QueuedRows.{held_then, notes_at, RowsOf}
 use Rattle.announcements.proofs.OnDispatchLaws.BatchLaws.{Earlier, after}

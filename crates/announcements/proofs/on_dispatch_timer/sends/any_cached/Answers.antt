@@ -1,8 +1,5 @@
 -- `any_cached` meets its contract.
-use Rattle.std.proofs.Common.{sym, ap, ◌∙◌}
-use Rattle.postcard.specs.Message.{Ihave}
-use Rattle.protocol.specs.State.{Note}
-use Rattle.block.specs.Views.{shown}
+use Rattle.announcements.proofs.Words.{sym, ap, ◌∙◌, Ihave, Note, shown}
 use Rattle.announcements.specs.QueuedRows.{held_then}
 use Rattle.announcements.proofs.OnDispatchLaws.RowLaws.{any-start, any-found, any-not}
 use Rattle.announcements.proofs.on_dispatch_timer.sends.any_cached.Goals as goal

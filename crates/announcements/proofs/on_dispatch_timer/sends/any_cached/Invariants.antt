@@ -1,5 +1,4 @@
-use Rattle.std.proofs.Common.{take, ◌≡◌, false}
-use Rattle.block.specs.Views.{shown}
+use Rattle.announcements.proofs.Words.{take, ◌≡◌, false, shown}
 use Rattle.announcements.specs.QueuedRows.{ihaves_at, some_held, held_then}
 use Rattle.announcements.proofs.on_dispatch_timer.sends.any_cached.Given as goal
 

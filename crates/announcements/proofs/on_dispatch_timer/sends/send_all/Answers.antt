@@ -1,24 +1,8 @@
 -- `send_all` meets its contract.
-use Rattle.std.proofs.Common.{◌≡◌, List, ◌+◌, ◌<◌, length, ap, ◌∙◌, arith, drop, ◌∷◌}
-use Rattle.storage.specs.Lists.Base.{concat_map}
-use Rattle.storage.specs.Lists.Map.{keys}
-use Rattle.postcard.specs.Message.{action_bytes}
-use Rattle.protocol.specs.Run.{Room}
-use Rattle.protocol.specs.State.{State}
-use Rattle.protocol.specs.Links.{Links}
-use Rattle.protocol.specs.Ticks.{per_message}
-use Rattle.decide.specs.Settled.{settled}
-use Rattle.decide.specs.ActionsAfter.{dispatch_actions}
+use Rattle.announcements.proofs.Words.{◌≡◌, List, ◌+◌, ◌<◌, length, ap, ◌∙◌, arith, drop, ◌∷◌, concat_map, keys, action_bytes, Room, State, Links, per_message, settled, dispatch_actions, peer_at, rooms_of, shown, same_links, same-rooms-in, queue-few, links-few}
 use Rattle.block.specs.View.{state_of}
-use Rattle.block.specs.LinkSteps.{peer_at}
 use Rattle.block.proofs.LinkLaws.{count-links}
-use Rattle.steps.specs.Calls.{rooms_of}
-use Rattle.block.specs.Views.{shown}
-use Rattle.steps.proofs.AtRestLaws.{same_links}
 use Rattle.steps.proofs.GroupsLaws.GroupLaws.{apart_of}
-use Rattle.steps.proofs.RoomsLaws.{same-rooms-in}
-use Rattle.block.proofs.NoteRowLaws.{queue-few}
-use Rattle.block.proofs.ViewLaws.{links-few}
 use Rattle.announcements.specs.OnDispatchTimer.{dispatch_bytes}
 use Rattle.announcements.specs.QueuedRows.{held_then}
 use Rattle.announcements.proofs.OnDispatchLaws.ActionLoop.{all-actions, next-peer, no-peer}

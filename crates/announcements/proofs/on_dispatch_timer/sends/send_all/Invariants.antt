@@ -1,10 +1,5 @@
 -- `send_all`: what was sent and what the links that are left have to add make the whole.
-use Rattle.std.proofs.Common.{drop}
-use Rattle.storage.specs.Lists.Map.{keys}
-use Rattle.protocol.specs.Ticks.{per_message}
-use Rattle.decide.specs.Settled.{settled}
-use Rattle.steps.specs.Calls.{rooms_of}
-use Rattle.block.specs.Views.{shown}
+use Rattle.announcements.proofs.Words.{drop, keys, per_message, settled, rooms_of, shown}
 use Rattle.announcements.specs.OnDispatchTimer.{dispatch_bytes}
 use Rattle.announcements.specs.QueuedRows.{held_then}
 use Rattle.announcements.proofs.OnDispatchLaws.SendLaws.{Going}

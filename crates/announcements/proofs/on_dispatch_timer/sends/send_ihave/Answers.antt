@@ -1,7 +1,5 @@
 -- `send_ihave` meets its contract.
-use Rattle.std.proofs.Common.{sym, ◌∙◌, not, false}
-use Rattle.decide.specs.RecordGrowth.{announce_action}
-use Rattle.block.specs.Views.{shown}
+use Rattle.announcements.proofs.Words.{sym, ◌∙◌, not, false, announce_action, shown}
 use Rattle.announcements.specs.QueuedRows.{held_then, ihaves_at, some_held}
 use Rattle.announcements.proofs.OnDispatchLaws.SendLaws.{send-quiet, send-timed, quiet-or, loud-timer}
 use Rattle.announcements.proofs.on_dispatch_timer.sends.send_ihave.Goals as goal

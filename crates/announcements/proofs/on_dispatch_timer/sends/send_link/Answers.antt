@@ -1,20 +1,10 @@
 -- `send_link` meets its contract.
-use Rattle.std.proofs.Common.{◌≡◌, ℕ, List, ◌+◌, ◌<◌, ◌≤◌, length, sym, ap, ◌∙◌, rules, arith, Bool, ◌++◌, get_or, length-append, ltb, min}
+use Rattle.announcements.proofs.Words.{◌≡◌, ℕ, List, ◌+◌, ◌<◌, ◌≤◌, length, sym, ap, ◌∙◌, rules, arith, Bool, ◌++◌, get_or, length-append, ltb, min, State, per_message, peer_at, rooms_of, note_at, shown, link-key, kth-link, queue-few, links-few}
 use lib.ListN.{length-map}
 use Rattle.std.specs.Slice.Iter.{chunks_rest, chunks_size}
-use Rattle.protocol.specs.State.{State}
-use Rattle.protocol.specs.Ticks.{per_message}
 use Rattle.decide.specs.Rooms.{kth_taken}
-use Rattle.block.specs.LinkSteps.{peer_at}
-use Rattle.steps.specs.Calls.{rooms_of}
-use Rattle.block.specs.NoteSteps.{note_at}
-use Rattle.block.specs.Views.{shown}
 use Rattle.block.specs.declared.links.NumberedLink.{NumberedLink}
-use Rattle.block.proofs.PanelLaws.{link-key}
-use Rattle.steps.proofs.RoomsLaws.{kth-link}
-use Rattle.block.proofs.NoteRowLaws.{queue-few}
 use Rattle.announcements.proofs.PerMessageLaws.{per-message}
-use Rattle.block.proofs.ViewLaws.{links-few}
 use Rattle.announcements.specs.QueuedRows.{held_then, ihave_of, ihaves_at}
 use Rattle.announcements.proofs.OnDispatchLaws.QueueLaws.{queued-few}
 use Rattle.announcements.proofs.OnDispatchLaws.RowLaws.{piece-first, piece-rest, piece-rows, rest-rows, later-than}

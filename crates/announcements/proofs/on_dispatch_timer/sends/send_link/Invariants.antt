@@ -1,13 +1,6 @@
 -- `send_link`: what was sent and what the rows that are left have to add make the whole.
-use Rattle.std.proofs.Common.{◌≡◌, ◌≤◌, ◌+◌, length}
+use Rattle.announcements.proofs.Words.{◌≡◌, ◌≤◌, ◌+◌, length, concat_map, action_bytes, per_message, peer_pieces, piece_actions, peer_at, rooms_of, shown}
 use Rattle.std.specs.Slice.Iter.{chunks_rest, chunks_size}
-use Rattle.storage.specs.Lists.Base.{concat_map}
-use Rattle.postcard.specs.Message.{action_bytes}
-use Rattle.protocol.specs.Ticks.{per_message}
-use Rattle.decide.specs.Pieces.{peer_pieces, piece_actions}
-use Rattle.block.specs.LinkSteps.{peer_at}
-use Rattle.steps.specs.Calls.{rooms_of}
-use Rattle.block.specs.Views.{shown}
 use Rattle.announcements.specs.QueuedRows.{held_then, flag_after_all, ihaves_at, RowsOf}
 use Rattle.announcements.proofs.OnDispatchLaws.SendLaws.{Linking}
 use Rattle.announcements.proofs.on_dispatch_timer.sends.send_link.Given as goal

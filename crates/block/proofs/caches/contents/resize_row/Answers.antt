@@ -1,17 +1,16 @@
--- `cached::resize_row` meets its contract: the contents behind move, their starts with them, and content and length are stored.
-use Rattle.std.proofs.Common.{◌≡◌, ℕ, ◌+◌, ◌≤◌, ◌<◌, arith, length}
-use Rattle.time_cache.specs.Tables.{row_at}
+-- `contents::resize_row` meets its contract: the contents behind move, their starts with them, and content and length are stored.
+use Rattle.block.proofs.Words.{◌≡◌, ℕ, ◌+◌, ◌≤◌, ◌<◌, arith, length, row_at}
 use Rattle.block.specs.Contents.Starts.{start_of}
 use Rattle.block.specs.Contents.CacheSteps.{cached_rows}
 use Rattle.block.proofs.ContentsLaws.Shifts.{first-row}
 use Rattle.block.proofs.ContentsLaws.Setting.{row_ends, small, fit-1, above-1, resized}
 use Rattle.block.proofs.caches.contents.resize_row.Goals as goal
-use Rattle.block.proofs.caches.contents.resize_row.Goals.{After-contents_at-contents, Start}
+use Rattle.block.proofs.caches.contents.resize_row.Goals.{After-start-contents, Start}
 
 -- what the first reads tell
-module _ (d : After-contents_at-contents) where
+module _ (d : After-start-contents) where
   abbrev s : Start
-  s = (goal.at.After-contents_at-contents d).Start
+  s = (goal.at.After-start-contents d).Start
 
   abbrev k : ℕ
   k = length s.args.content.now
@@ -23,93 +22,96 @@ module _ (d : After-contents_at-contents) where
   len = d.len_of-len.result
 
   abbrev e : ℕ
-  e = d.contents_at-contents.result
+  e = d.start-contents.result
 
-  start_is : at ≡ start_of (row_at (cached_rows s.args.head s.args.block.now) s.args.place)
-  start_is = first-row s.args.head s.args.block.now s.args.place at s.requires.1 d.start_of-start.ensures
+  start_is : at ≡ start_of (row_at (cached_rows s.args.head.now s.args.block.now) s.args.place)
+  start_is = first-row s.args.head.now s.args.block.now s.args.place at s.requires.there d.start_of-start.ensures
 
-  ends : at + len ≤ s.args.head.live.contents
-  ends = omega (arith, start_is, d.len_of-len.ensures, row_ends s.args.head s.args.block.now s.args.content.now s.args.place s.requires.0 s.requires.1 s.requires.2)
+  ends : at + len ≤ s.args.head.now.live.contents
+  ends = omega (arith, start_is, d.len_of-len.ensures, row_ends s.args.head.now s.args.block.now s.args.content.now s.args.place s.requires.sound.0 s.requires.there s.requires.room)
 
-  room : s.args.head.live.contents + k ≤ s.args.head.limits.content + len
-  room = omega (arith, d.len_of-len.ensures, s.requires.2)
+  room : s.args.head.now.live.contents + k ≤ s.args.head.now.limits.content + len
+  room = omega (arith, d.len_of-len.ensures, s.requires.room)
 
   low : e ≤ 2000000
-  low = omega (arith, d.contents_at-contents.ensures, s.requires.0.fit.ceilings)
+  low = omega (arith, (d.start-contents.ensures _ s.requires.sound.1), s.requires.sound.0.fit.ceilings)
 
-  top : e + s.args.head.limits.content ≤ length s.args.block.now
-  top = omega (arith, d.contents_at-contents.ensures, s.requires.0.fit.long)
+  top : e + s.args.head.now.limits.content ≤ length s.args.block.now
+  top = omega (arith, (d.start-contents.ensures _ s.requires.sound.1), s.requires.sound.0.fit.long)
 
-  most : s.args.head.limits.content ≤ 1048576
-  most = s.requires.0.fit.ceilings.B
+  most : s.args.head.now.limits.content ≤ 1048576
+  most = s.requires.sound.0.fit.ceilings.B
 
-  used : s.args.head.live.contents ≤ s.args.head.limits.content
-  used = s.requires.0.fit.within.contents
+  used : s.args.head.now.live.contents ≤ s.args.head.now.limits.content
+  used = s.requires.sound.0.fit.within.contents
 
   few : s.args.place < 1024
-  few = omega (arith, s.requires.1, s.requires.0.fit.within.cached_rows, s.requires.0.fit.ceilings.C)
+  few = omega (arith, s.requires.there, s.requires.sound.0.fit.within.cached_rows, s.requires.sound.0.fit.ceilings.C)
 
 pub overflow_sub-behind : goal.overflow_sub-behind
-overflow_sub-behind c = omega (arith, ends (goal.at.overflow_sub-behind c).After-contents_at-contents)
+overflow_sub-behind c = omega (arith, ends (goal.at.overflow_sub-behind c).After-start-contents)
 
 pub overflow_sub-behind-2 : goal.overflow_sub-behind-2
-overflow_sub-behind-2 c = omega (arith, ends (goal.at.overflow_sub-behind-2 c).After-contents_at-contents)
+overflow_sub-behind-2 c = omega (arith, ends (goal.at.overflow_sub-behind-2 c).After-start-contents)
 
 pub overflow_add-contents : goal.overflow_add-contents
 overflow_add-contents c =
-    let d = (goal.at.overflow_add-contents c).After-contents_at-contents in
+    let d = (goal.at.overflow_add-contents c).After-start-contents in
     omega (arith, ends d, low d, used d, most d)
 
 pub overflow_add-contents-2 : goal.overflow_add-contents-2
 overflow_add-contents-2 c =
-    let d = (goal.at.overflow_add-contents-2 c).After-contents_at-contents in
+    let d = (goal.at.overflow_add-contents-2 c).After-start-contents in
     omega (arith, ends d, low d, used d, most d)
 
 pub overflow_add-contents-3 : goal.overflow_add-contents-3
 overflow_add-contents-3 c =
-    let d = (goal.at.overflow_add-contents-3 c).After-contents_at-contents in
+    let d = (goal.at.overflow_add-contents-3 c).After-start-contents in
     omega (arith, ends d, low d, used d, most d)
 
 pub overflow_add-contents-4 : goal.overflow_add-contents-4
 overflow_add-contents-4 c =
-    let d = (goal.at.overflow_add-contents-4 c).After-contents_at-contents in
+    let d = (goal.at.overflow_add-contents-4 c).After-start-contents in
     omega (arith, ends d, room d, low d, used d, most d)
 
 pub move_bytes-requires : goal.move_bytes-requires
 move_bytes-requires c =
-    let d = (goal.at.move_bytes-requires c).After-contents_at-contents in
+    let d = (goal.at.move_bytes-requires c).After-start-contents in
     (omega (arith, ends d, used d, top d), omega (arith, ends d, room d, top d))
 
 pub shift_rows-requires : goal.shift_rows-requires
 shift_rows-requires c =
-    let d = (goal.at.shift_rows-requires c).After-contents_at-contents in
+    let d = (goal.at.shift_rows-requires c).After-start-contents in
     let t = s d in
-    let h = t.args.head in
+    let h = t.args.head.now in
     let xs = t.args.block.now in
-    let content = t.args.content.now in (
-      fit-1 h xs content t.args.place t.requires.0 t.requires.1 t.requires.2 (at d) (len d) (e d) (start_is d) c.len_of-len.ensures c.contents_at-contents.ensures c.move_bytes.new.bytes c.move_bytes.ensures c.move_bytes.auto.bytes,
-      omega (arith, t.requires.1),
-      small h xs content t.args.place t.requires.0 t.requires.1 t.requires.2,
-      above-1 h xs content t.args.place t.requires.0 t.requires.1 t.requires.2 (at d) (len d) (e d) (start_is d) c.len_of-len.ensures c.contents_at-contents.ensures c.move_bytes.new.bytes c.move_bytes.ensures c.move_bytes.auto.bytes,
-    )
+    let content = t.args.content.now in
+    let from = c.start-contents.ensures _ t.requires.sound.1 in record {
+      fit = (fit-1 h xs content t.args.place t.requires.sound.0 t.requires.there t.requires.room (at d) (len d) (e d) (start_is d) c.len_of-len.ensures from c.move_bytes.new.bytes c.move_bytes.ensures c.move_bytes.auto.bytes, t.requires.sound.1);
+      there = omega (arith, t.requires.there);
+      above = (
+        small h xs content t.args.place t.requires.sound.0 t.requires.there t.requires.room,
+        above-1 h xs content t.args.place t.requires.sound.0 t.requires.there t.requires.room (at d) (len d) (e d) (start_is d) c.len_of-len.ensures from c.move_bytes.new.bytes c.move_bytes.ensures c.move_bytes.auto.bytes,
+      );
+    }
 
 pub overflow_add-contents-5 : goal.overflow_add-contents-5
 overflow_add-contents-5 c =
-    let d = (goal.at.overflow_add-contents-5 c).After-contents_at-contents in
+    let d = (goal.at.overflow_add-contents-5 c).After-start-contents in
     omega (arith, ends d, low d, used d, most d)
 
 pub copy_bytes-requires : goal.copy_bytes-requires
 copy_bytes-requires c =
-    let d = (goal.at.copy_bytes-requires c).After-contents_at-contents in
+    let d = (goal.at.copy_bytes-requires c).After-start-contents in
     omega (arith, ends d, room d, top d, c.shift_rows.auto.block, c.move_bytes.auto.bytes)
 
 pub overflow_sub-head : goal.overflow_sub-head
 overflow_sub-head c =
-    omega (arith, ends (goal.at.overflow_sub-head c).After-contents_at-contents)
+    omega (arith, ends (goal.at.overflow_sub-head c).After-start-contents)
 
 pub returns : goal.returns
 returns c =
-    let d = (goal.at.returns c).After-contents_at-contents in
+    let d = (goal.at.returns c).After-start-contents in
     let t = s d in
-    resized t.args.head t.args.block.now t.args.content.now t.args.place t.requires.0 t.requires.1 t.requires.2 (at d) (len d) (e d) (start_is d) c.len_of-len.ensures c.contents_at-contents.ensures c.move_bytes.new.bytes c.move_bytes.ensures c.move_bytes.auto.bytes
-    c.shift_rows.new.block c.shift_rows.ensures c.shift_rows.auto.block c.copy_bytes.new.out c.copy_bytes.ensures c.copy_bytes.auto.out c.cached_rows_at.result c.cached_rows_at.ensures c.store_le.new.bytes c.store_le.ensures c.store_le.auto.bytes
+    resized t.args.head.now t.args.block.now t.args.content.now t.args.place t.requires.sound.0 t.requires.there t.requires.room (at d) (len d) (e d) (start_is d) c.len_of-len.ensures (c.start-contents.ensures _ t.requires.sound.1) c.move_bytes.new.bytes c.move_bytes.ensures c.move_bytes.auto.bytes
+    c.shift_rows.new.block c.shift_rows.ensures c.shift_rows.auto.block c.copy_bytes.new.out c.copy_bytes.ensures c.copy_bytes.auto.out c.start.result (c.start.ensures _ t.requires.sound.1) c.store_le.new.bytes c.store_le.ensures c.store_le.auto.bytes

@@ -1,7 +1,6 @@
--- `cached::shift_starts` meets its contract: the first i rows are done, the others are as they were.
-use Rattle.std.proofs.Common.{◌≡◌, length}
+-- `contents::shift_starts` meets its contract: the first i rows are done, the others are as they were.
+use Rattle.block.proofs.Words.{◌≡◌, length, expiry_rows, no_row}
 use Rattle.storage.proofs.RefsLaws.Shifts.{done}
-use Rattle.time_cache.specs.Tables.{expiry_rows, no_row}
 use Rattle.block.specs.Contents.Starts.{shifted_row}
 use Rattle.block.proofs.caches.contents.shift_starts.Given as goal
 

@@ -1,7 +1,5 @@
 -- The three stores are one.
-use Rattle.std.proofs.Common.{ap, ◌∙◌, ◌+◌}
-use Rattle.storage.specs.Rows.Part.{put}
-use Rattle.storage.specs.Rows.Digits.{le_bytes}
+use Rattle.block.proofs.Words.{ap, ◌∙◌, ◌+◌, put, le_bytes}
 use Rattle.block.proofs.CachesLaws.GraftWrites.{first-stored}
 use Rattle.block.proofs.caches.grafted.store_first.Goals as goal
 

@@ -1,11 +1,6 @@
 -- `store`: the peer, and behind it the mark.
-use Rattle.std.proofs.Common.{◌≡◌, ap, ◌∙◌, List, [], ◌∷◌, ℕ, arith, length, get_or, set, get_or-set_same}
-use Rattle.storage.specs.Rows.Part.{part}
-use Rattle.storage.specs.Rows.Digits.{le_nat, le_bytes}
+use Rattle.block.proofs.Words.{◌≡◌, ap, ◌∙◌, List, [], ◌∷◌, ℕ, arith, length, get_or, set, get_or-set_same, part, le_nat, le_bytes, set-put, part-before, part-put, length-put, length-le_bytes, le_nat-le_bytes, entry}
 use Rattle.storage.specs.Rows.Rows.{field_of}
-use Rattle.storage.proofs.RowsLaws.Parts.{set-put, part-before, part-put, length-put}
-use Rattle.storage.proofs.RowsLaws.Digits.{length-le_bytes, le_nat-le_bytes}
-use Rattle.storage.specs.Lists.Map.{entry}
 use Rattle.block.specs.View.{link_of, mark_of}
 use Rattle.block.proofs.links.LinkRow.store.Goals as goal
 

@@ -1,11 +1,6 @@
 -- `store`: the identifier, and behind it the list.
-use Rattle.std.proofs.Common.{◌≡◌, sym, ap, ◌∙◌, ℕ, List, arith, length, drop, length-drop}
-use Rattle.storage.specs.Rows.Part.{part, put}
-use Rattle.storage.specs.Rows.Digits.{be_nat, be_bytes}
-use Rattle.storage.specs.Rows.Ident.{id_of}
-use Rattle.storage.proofs.RowsLaws.Parts.{part-before, part-put, put-drop, put_all, length-put}
-use Rattle.storage.proofs.RowsLaws.Digits.{length-be_bytes, be_nat-be_bytes}
-use Rattle.storage.proofs.RowsLaws.Ids.{id-lt}
+use Rattle.block.proofs.Words.{◌≡◌, sym, ap, ◌∙◌, ℕ, List, arith, length, drop, part, put, be_nat, be_bytes, id_of, part-before, part-put, put-drop, put_all, length-put, length-be_bytes, be_nat-be_bytes, id-lt}
+use Rattle.std.proofs.Common.{length-drop}
 use Rattle.block.specs.Rows.{missed}
 use Rattle.block.specs.View.{id_at}
 use Rattle.block.proofs.missing.MissedRow.store.Goals as goal

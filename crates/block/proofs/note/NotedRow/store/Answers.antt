@@ -1,11 +1,5 @@
 -- `store`: the identifier, and behind it the round.
-use Rattle.std.proofs.Common.{◌≡◌, ap, ◌∙◌, List, ℕ, arith, length}
-use Rattle.storage.specs.Rows.Part.{part, put}
-use Rattle.storage.specs.Rows.Digits.{le_nat, le_bytes, be_nat, be_bytes}
-use Rattle.storage.specs.Rows.Ident.{id_of}
-use Rattle.storage.proofs.RowsLaws.Parts.{part-before, part-put, length-put}
-use Rattle.storage.proofs.RowsLaws.Digits.{length-be_bytes, be_nat-be_bytes, length-le_bytes, le_nat-le_bytes}
-use Rattle.storage.proofs.RowsLaws.Ids.{id-lt}
+use Rattle.block.proofs.Words.{◌≡◌, ap, ◌∙◌, List, ℕ, arith, length, part, put, le_nat, le_bytes, be_nat, be_bytes, id_of, part-before, part-put, length-put, length-be_bytes, be_nat-be_bytes, length-le_bytes, le_nat-le_bytes, id-lt}
 use Rattle.block.specs.Rows.{noted}
 use Rattle.block.specs.View.{id_at, half_at}
 use Rattle.block.proofs.note.NotedRow.store.Goals as goal

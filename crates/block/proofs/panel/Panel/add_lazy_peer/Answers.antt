@@ -1,10 +1,7 @@
 -- A neighbour is marked, a stranger is not.
-use Rattle.std.proofs.Common.{◌≡◌, ℕ, refl, ap, ◌∙◌, subst, arith}
+use Rattle.block.proofs.Words.{◌≡◌, ℕ, refl, ap, ◌∙◌, subst, arith, keys, Here, Between, lazy, State}
 use lib.ListN.{length-map}
-use Rattle.storage.specs.Lists.Map.{keys}
-use Rattle.storage.specs.Rows.Sorted.{Here, Between}
-use Rattle.protocol.specs.Links.{add_lazy, lazy}
-use Rattle.protocol.specs.State.{State}
+use Rattle.protocol.specs.Links.{add_lazy}
 use Rattle.block.specs.Panels.{state}
 use Rattle.block.specs.Views.{shown}
 use Rattle.block.specs.LinkSteps.{linked}

@@ -1,11 +1,6 @@
 -- By what the search found.
-use Rattle.std.proofs.Common.{sym, ap, ◌∙◌, subst, List, [], ◌∷◌, ◌≤◌, length, arith}
+use Rattle.block.proofs.Words.{sym, ap, ◌∙◌, subst, List, [], ◌∷◌, ◌≤◌, length, arith, id_of, Here, Between, keys, up_of, State, Hop}
 use lib.ListN.{length-map}
-use Rattle.storage.specs.Rows.Ident.{id_of}
-use Rattle.storage.specs.Rows.Sorted.{Here, Between}
-use Rattle.storage.specs.Lists.Map.{keys}
-use Rattle.time_cache.proofs.Orders.{up_of}
-use Rattle.protocol.specs.State.{State, Hop}
 use Rattle.protocol.specs.Control.{add_announcer}
 use Rattle.block.specs.LinkSteps.{peer_at}
 use Rattle.block.specs.MissingSteps.{hop}

@@ -1,9 +1,5 @@
 -- A link that is there stays, another is added.
-use Rattle.std.proofs.Common.{◌≡◌, sym, ap, ◌∙◌, refl, List, [], ◌∷◌, length, length-append, arith}
-use Rattle.storage.specs.Lists.Base.{any}
-use Rattle.storage.specs.Lists.Map.{keys}
-use Rattle.time_cache.proofs.Orders.{up_of}
-use Rattle.protocol.specs.State.{State, Hop}
+use Rattle.block.proofs.Words.{◌≡◌, sym, ap, ◌∙◌, refl, List, [], ◌∷◌, length, length-append, arith, any, keys, up_of, State, Hop}
 use Rattle.block.specs.LinkSteps.{peer_at}
 use Rattle.block.specs.MissingSteps.{hop, hops_at, hops_to, from_peer}
 use Rattle.block.specs.Panels.{state}

@@ -1,12 +1,6 @@
 -- A row more, then its announcer.
-use Rattle.std.proofs.Common.{◌≡◌, ap, ◌∙◌, List, [], ◌+◌, length, arith}
+use Rattle.block.proofs.Words.{◌≡◌, ap, ◌∙◌, List, [], ◌+◌, length, arith, id_of, ascending, Entry, entry, keys, ascending-insert, up_of, State, Hop}
 use lib.ListN.{length-map}
-use Rattle.storage.specs.Rows.Ident.{id_of}
-use Rattle.storage.specs.Lists.Base.{ascending}
-use Rattle.storage.specs.Lists.Map.{Entry, entry, keys}
-use Rattle.storage.proofs.ListsLaws.MapLaws.{ascending-insert}
-use Rattle.time_cache.proofs.Orders.{up_of}
-use Rattle.protocol.specs.State.{State, Hop}
 use Rattle.block.specs.MissingSteps.{hops_at, announced_at}
 use Rattle.block.specs.Panels.{state}
 use Rattle.block.proofs.AnnounceLaws.{insert-at, insert-long, new-announced}

@@ -1,8 +1,6 @@
 -- The two tables are left to `expire_until`.
-use Rattle.std.proofs.Common.{refl, sym, subst}
-use Rattle.time_cache.specs.Tables.{Lies, Sound}
-use Rattle.time_cache.specs.Steps.{Expires}
-use Rattle.time_cache.specs.declared.cache.TimeBoundCache.{TimeBoundCache}
+use Rattle.block.proofs.Words.{refl, sym, subst, Lies, Expires, TimeBoundCache}
+use Rattle.time_cache.specs.Tables.{Sound}
 use Rattle.block.specs.Becomes.{Becomes}
 use Rattle.block.specs.Heads.{with_received_counts}
 use Rattle.block.specs.Caches.InBlock.{received_left}
@@ -13,7 +11,7 @@ use Rattle.block.proofs.panel.Panel.expire_received.Goals.{After-expire_until-ex
 pub expire_until-expired-requires-clause-lies : goal.expire_until-expired-requires-clause-lies
 expire_until-expired-requires-clause-lies c =
     let p = c.args.self.now in
-    subst (λ (t : TimeBoundCache). Lies t p.block.now × Sound t p.block.now) (sym c.table-cache.ensures.at)
+    subst (λ (t : TimeBoundCache). Lies t p.block.now × Sound t p.block.now) (sym c.tables-cache.ensures.at)
     (received-lies p.head p.block.now p.sound.fit, received-sound p.head p.block.now p.sound c.requires)
 
 goes : (c : After-expire_until-expired) → let p = c.args.self.now in let r = c.expire_until-expired.result in
@@ -22,10 +20,10 @@ goes c =
     let p = c.args.self.now in
     let r = c.expire_until-expired in
     received-expired p.head p.block.now r.new.block c.args.instant.0 r.result p.sound r.auto.block
-    (subst (λ (t : TimeBoundCache). Expires t c.args.instant.0 p.block.now r.result r.new.block) c.table-cache.ensures.at r.ensures.left)
+    (subst (λ (t : TimeBoundCache). Expires t c.args.instant.0 p.block.now r.result r.new.block) c.tables-cache.ensures.at r.ensures.left)
 
-pub invariant_of-self : goal.invariant_of-self
-invariant_of-self c = record { sound = (goes (goal.at.invariant_of-self c).After-expire_until-expired).sound }
+pub invariant_of-self-2-clause-sound : goal.invariant_of-self-2-clause-sound
+invariant_of-self-2-clause-sound c = (goes (goal.at.invariant_of-self-2-clause-sound c).After-expire_until-expired).sound
 
 pub returns : goal.returns
 returns c = record { state = (goes (goal.at.returns c).After-expire_until-expired).state; loan = refl }

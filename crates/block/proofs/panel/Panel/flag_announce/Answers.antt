@@ -1,7 +1,5 @@
 -- The flag stands where the record holds anything.
-use Rattle.std.proofs.Common.{refl, ap, sym, ◌≡◌, arith, Bool, true, false, List, [], ◌∷◌, not, ◌||◌, length, ◌<◌}
-use Rattle.storage.specs.Lists.Base.{is_empty}
-use Rattle.protocol.specs.State.{Note, with_announce_scheduled}
+use Rattle.block.proofs.Words.{refl, ap, sym, ◌≡◌, arith, Bool, true, false, List, [], ◌∷◌, not, ◌||◌, length, ◌<◌, is_empty, Note, with_announce_scheduled}
 use Rattle.block.specs.View.{state_of}
 use Rattle.block.specs.Panels.{state}
 use Rattle.block.proofs.NoteLaws.{count-dropped}

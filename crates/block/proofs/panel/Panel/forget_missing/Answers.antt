@@ -1,10 +1,6 @@
 -- Found it is taken out, and else it is not there.
-use Rattle.std.proofs.Common.{sym, ap, ◌∙◌, subst, refl, ℕ, List, arith}
+use Rattle.block.proofs.Words.{sym, ap, ◌∙◌, subst, refl, ℕ, List, arith, id_of, Here, Between, Map, keys, State, Hop, with_missing}
 use lib.ListN.{length-map}
-use Rattle.storage.specs.Rows.Ident.{id_of}
-use Rattle.storage.specs.Rows.Sorted.{Here, Between}
-use Rattle.storage.specs.Lists.Map.{Map, keys}
-use Rattle.protocol.specs.State.{State, Hop, with_missing}
 use Rattle.block.specs.Panels.{state}
 use Rattle.block.specs.MissingSteps.{miss_out}
 use Rattle.block.proofs.KeyPlaces.{remove-between}

@@ -1,10 +1,6 @@
 -- A new entry, and its first peer.
-use Rattle.std.proofs.Common.{[], ◌∷◌, sym, ap, ◌∙◌, subst, ℕ, List, ◌+◌, ◌*◌, get_or, length, arith}
-use Rattle.storage.specs.Lists.Map.{entry}
-use Rattle.storage.specs.Rows.Ident.{id_of}
-use Rattle.storage.specs.Rows.Part.{part, put}
+use Rattle.block.proofs.Words.{[], ◌∷◌, sym, ap, ◌∙◌, subst, ℕ, List, ◌+◌, ◌*◌, get_or, length, arith, entry, id_of, part, put, with_grafted}
 use Rattle.time_cache.specs.TimeCache.{put as put_in}
-use Rattle.protocol.specs.State.{with_grafted}
 use Rattle.block.specs.Layout.{place}
 use Rattle.block.specs.View.{limits_of}
 use Rattle.block.specs.Becomes.{Becomes}
@@ -40,8 +36,8 @@ goes c =
     (sym (c.push_hop.ensures ∙ (λ k. put (e k) (pushed_hop a.hop.link a.hop.round.0 (part (e k) 97 q.block.now)) q.block.now)))
     (first-goes p.head q.head p.block.now q.block.now (id_of a.id) a.expires.0 a.hop.link a.hop.round.0 c.enter_graft-i.result q.sound c.requires.order r.goes.state r.entry c.requires.link (omega (arith, c.well_formed)))
 
-pub invariant_of-self : goal.invariant_of-self
-invariant_of-self c = record { sound = (goes c).sound }
+pub invariant_of-self-clause-sound : goal.invariant_of-self-clause-sound
+invariant_of-self-clause-sound c = (goes c).sound
 
 pub returns : goal.returns
 returns c = record { state = (goes (goal.at.returns c).After-push_hop).state; loan = c.enter_graft-i.ensures.goes.loan }

@@ -1,8 +1,6 @@
 -- A peer more, at its place.
-use Rattle.std.proofs.Common.{refl, sym, ap, ◌∙◌, subst, ℕ, ◌+◌, ◌*◌, ◌≤◌, List, length, get_or, arith}
+use Rattle.block.proofs.Words.{refl, sym, ap, ◌∙◌, subst, ℕ, ◌+◌, ◌*◌, ◌≤◌, List, length, get_or, arith, Entry, part, put}
 use lib.ListN.{length-map}
-use Rattle.storage.specs.Lists.Map.{Entry}
-use Rattle.storage.specs.Rows.Part.{part, put}
 use Rattle.block.specs.Layout.{place}
 use Rattle.block.specs.View.{limits_of}
 use Rattle.block.specs.Becomes.{Becomes}
@@ -44,8 +42,8 @@ goes c =
     (sym (c.insert_hop.ensures ∙ (λ k. put (e k) (inserted_hop a.j a.hop.link a.hop.round.0 (part (e k) 97 xs)) xs)))
     (insert-goes p.head xs p.sound c.requires.grafting a.i c.requires.there.0 a.hop.link a.hop.round.0 c.requires.there.1 (omega (arith, c.well_formed)) a.j c.requires.place)
 
-pub invariant_of-self : goal.invariant_of-self
-invariant_of-self c = record { sound = (goes (goal.at.invariant_of-self c).After-insert_hop).sound }
+pub invariant_of-self-clause-sound : goal.invariant_of-self-clause-sound
+invariant_of-self-clause-sound c = (goes (goal.at.invariant_of-self-clause-sound c).After-insert_hop).sound
 
 pub returns : goal.returns
 returns c = record { state = (goes (goal.at.returns c).After-insert_hop).state; loan = refl }

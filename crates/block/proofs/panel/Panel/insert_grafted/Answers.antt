@@ -1,12 +1,6 @@
 -- By what the search found.
-use Rattle.std.proofs.Common.{◌∙◌, subst, ℕ, Result, arith}
+use Rattle.block.proofs.Words.{◌∙◌, subst, ℕ, Result, arith, Entry, keys, id_of, Here, Between, FoundIs, Timed, up_of, State, Grafts}
 use lib.ListN.{length-map}
-use Rattle.storage.specs.Lists.Map.{Entry, keys}
-use Rattle.storage.specs.Rows.Ident.{id_of}
-use Rattle.storage.specs.Rows.Sorted.{Here, Between, FoundIs}
-use Rattle.time_cache.specs.TimeCache.{Timed}
-use Rattle.time_cache.proofs.Orders.{up_of}
-use Rattle.protocol.specs.State.{State, Grafts}
 use Rattle.block.specs.Panels.{state}
 use Rattle.block.proofs.PanelLaws.{same-state}
 use Rattle.block.proofs.GraftsLaws.NoteLaws.{noted_here, noted-new, new-most}

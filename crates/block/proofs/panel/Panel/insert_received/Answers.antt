@@ -1,9 +1,6 @@
 -- The two tables are left to `insert`.
-use Rattle.std.proofs.Common.{refl, sym, subst}
-use Rattle.storage.specs.Rows.Ident.{id_of}
-use Rattle.time_cache.specs.Tables.{FitsOneMore, Sound}
-use Rattle.time_cache.specs.Steps.{Inserts}
-use Rattle.time_cache.specs.declared.cache.TimeBoundCache.{TimeBoundCache}
+use Rattle.block.proofs.Words.{refl, sym, subst, id_of, FitsOneMore, Inserts, TimeBoundCache}
+use Rattle.time_cache.specs.Tables.{Sound}
 use Rattle.block.specs.Becomes.{Becomes}
 use Rattle.block.specs.Heads.{with_received_counts}
 use Rattle.block.specs.Caches.InBlock.{received_also}
@@ -14,7 +11,7 @@ use Rattle.block.proofs.panel.Panel.insert_received.Goals.{After-insert-inserted
 pub insert-inserted-requires : goal.insert-inserted-requires
 insert-inserted-requires c =
     let p = c.args.self.now in
-    subst (λ (t : TimeBoundCache). FitsOneMore t p.block.now × Sound t p.block.now) (sym c.table-cache.ensures.at)
+    subst (λ (t : TimeBoundCache). FitsOneMore t p.block.now × Sound t p.block.now) (sym c.tables-cache.ensures.at)
     (received-room p.head p.block.now p.sound.fit, received-sound p.head p.block.now p.sound c.requires.order)
 
 goes : (c : After-insert-inserted) → let p = c.args.self.now in let r = c.insert-inserted.result in
@@ -23,10 +20,10 @@ goes c =
     let p = c.args.self.now in
     let r = c.insert-inserted in
     received-inserted p.head p.block.now r.new.block (id_of c.args.id) c.args.expires.0 r.result p.sound r.auto.block c.requires.room
-    (subst (λ (t : TimeBoundCache). Inserts t (id_of c.args.id) c.args.expires.0 p.block.now r.result r.new.block) c.table-cache.ensures.at r.ensures)
+    (subst (λ (t : TimeBoundCache). Inserts t (id_of c.args.id) c.args.expires.0 p.block.now r.result r.new.block) c.tables-cache.ensures.at r.ensures)
 
-pub invariant_of-self : goal.invariant_of-self
-invariant_of-self c = record { sound = (goes (goal.at.invariant_of-self c).After-insert-inserted).sound }
+pub invariant_of-self-2-clause-sound : goal.invariant_of-self-2-clause-sound
+invariant_of-self-2-clause-sound c = (goes (goal.at.invariant_of-self-2-clause-sound c).After-insert-inserted).sound
 
 pub returns : goal.returns
 returns c = record { state = (goes (goal.at.returns c).After-insert-inserted).state; loan = refl }

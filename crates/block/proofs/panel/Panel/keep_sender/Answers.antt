@@ -16,8 +16,8 @@ goes c =
     subst (Becomes (kept_at c.args.entry c.args.peer) p.head p.block.now p.head) (sym c.store_kept.ensures)
     (kept_goes p.head p.block.now p.sound c.requires.0 c.args.entry c.requires.1 c.graft_at-at.result c.args.peer at (omega (arith, c.well_formed)))
 
-pub invariant_of-self : goal.invariant_of-self
-invariant_of-self c = record { sound = (goes (goal.at.invariant_of-self c).After-store_kept).sound }
+pub invariant_of-self-clause-sound : goal.invariant_of-self-clause-sound
+invariant_of-self-clause-sound c = (goes (goal.at.invariant_of-self-clause-sound c).After-store_kept).sound
 
 pub returns : goal.returns
 returns c = record { state = (goes (goal.at.returns c).After-store_kept).state; loan = refl }

@@ -1,6 +1,5 @@
 -- One announcer goes with its row, of several the first.
-use Rattle.std.proofs.Common.{◌≡◌, sym, ap, ◌∙◌, length, arith}
-use Rattle.protocol.specs.State.{State}
+use Rattle.block.proofs.Words.{◌≡◌, sym, ap, ◌∙◌, length, arith, State}
 use Rattle.block.specs.Panels.{state}
 use Rattle.block.specs.MissingSteps.{hops_at}
 use Rattle.block.proofs.AnnounceLaws.{left_one, left-more}

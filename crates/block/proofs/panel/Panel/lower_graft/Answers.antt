@@ -1,9 +1,6 @@
 -- The known round stays where it is no higher, and a lower one is stored.
-use Rattle.std.proofs.Common.{◌≡◌, refl, sym, ap, ◌∙◌, subst, ℕ, ◌+◌, ◌*◌, ◌<◌, List, length, get_or, arith}
+use Rattle.block.proofs.Words.{◌≡◌, refl, sym, ap, ◌∙◌, subst, ℕ, ◌+◌, ◌*◌, ◌<◌, List, length, get_or, arith, Entry, entry, part, put, State}
 use lib.ListN.{length-map}
-use Rattle.storage.specs.Lists.Map.{Entry, entry}
-use Rattle.storage.specs.Rows.Part.{part, put}
-use Rattle.protocol.specs.State.{State}
 use Rattle.block.specs.Layout.{place}
 use Rattle.block.specs.View.{limits_of}
 use Rattle.block.specs.Becomes.{Becomes}
@@ -57,8 +54,8 @@ goes c =
     (sym (c.set_round.ensures ∙ (λ k. put (e k) (round_put a.j a.hop.round.0 (part (e k) 97 xs)) xs)))
     (lower-goes p.head xs p.sound c.requires.grafting a.i c.requires.there.0 a.hop.link a.hop.round.0 c.requires.there.1 (omega (arith, c.well_formed)) a.j c.requires.place c.graft.result.round.0 (known (goal.at.After-set_round c).After-graft) c.if-graft-hop.false)
 
-pub invariant_of-self : goal.invariant_of-self
-invariant_of-self c = record { sound = (goes (goal.at.invariant_of-self c).After-set_round).sound }
+pub invariant_of-self-clause-sound : goal.invariant_of-self-clause-sound
+invariant_of-self-clause-sound c = (goes (goal.at.invariant_of-self-clause-sound c).After-set_round).sound
 
 pub returns : goal.returns
 returns c = record { state = (goes (goal.at.returns c).After-set_round).state; loan = refl }

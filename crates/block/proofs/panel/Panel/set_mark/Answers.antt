@@ -1,9 +1,5 @@
 -- A mark anew, or none where the link is quiet.
-use Rattle.std.proofs.Common.{◌≡◌, refl, sym, ap, ◌∙◌}
-use Rattle.storage.specs.Lists.Map.{keys}
-use Rattle.protocol.specs.Links.{is_quiet}
-use Rattle.protocol.specs.State.{State}
-use Rattle.time_cache.proofs.Orders.{up_of}
+use Rattle.block.proofs.Words.{◌≡◌, refl, sym, ap, ◌∙◌, keys, is_quiet, State, up_of}
 use Rattle.block.specs.Panels.{state}
 use Rattle.block.specs.LinkSteps.{peer_at, link_at, mark_value}
 use Rattle.block.proofs.LinkLaws.{mark-there, mark-quiet}

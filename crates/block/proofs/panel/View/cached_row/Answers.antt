@@ -1,8 +1,5 @@
 -- The place in the entry.
-use Rattle.std.proofs.Common.{◌<◌, sym, ap, ◌∙◌, subst, ℕ}
-use Rattle.time_cache.specs.Tables.{Lies, refs_at}
-use Rattle.time_cache.specs.Steps.{ref_at}
-use Rattle.time_cache.specs.declared.cache.TimeBoundCache.{TimeBoundCache}
+use Rattle.block.proofs.Words.{◌<◌, sym, ap, ◌∙◌, subst, ℕ, Lies, refs_at, ref_at, TimeBoundCache}
 use Rattle.block.proofs.CachesLaws.CachedLaws.{cached-lies}
 use Rattle.block.proofs.CachesLaws.ContentReads.{entry-below, place-below}
 use Rattle.block.proofs.panel.View.cached_row.Goals as goal

@@ -1,10 +1,6 @@
 -- The peers before j are below the peer of the link, since links ascend by their peers.
-use Rattle.std.proofs.Common.{◌≡◌, sym, ap, ◌∙◌, ℕ, ◌<◌, length, get_or, arith}
+use Rattle.block.proofs.Words.{◌≡◌, sym, ap, ◌∙◌, ℕ, ◌<◌, length, get_or, arith, Map, Entry, keys, up_of, Mark, State}
 use lib.ListN.{length-map}
-use Rattle.storage.specs.Lists.Map.{Map, Entry, keys}
-use Rattle.time_cache.proofs.Orders.{up_of}
-use Rattle.protocol.specs.Links.{Mark}
-use Rattle.protocol.specs.State.{State}
 use Rattle.block.specs.LinkSteps.{peer_at}
 use Rattle.block.specs.Views.{shown}
 use Rattle.block.specs.Caches.GraftSteps.{grafts_at}

@@ -1,6 +1,5 @@
 -- The peers before j are below the peer of the link.
-use Rattle.std.proofs.Common.{ℕ, ◌<◌, get_or}
-use Rattle.storage.specs.Lists.Map.{keys}
+use Rattle.block.proofs.Words.{ℕ, ◌<◌, get_or, keys}
 use Rattle.block.specs.LinkSteps.{peer_at}
 use Rattle.block.specs.Views.{shown}
 use Rattle.block.specs.Caches.GraftSteps.{grafts_at}

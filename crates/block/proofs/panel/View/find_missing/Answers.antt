@@ -1,5 +1,4 @@
-use Rattle.std.proofs.Common.{sym, subst, ℕ, Option}
-use Rattle.storage.specs.Rows.Ident.{id_of}
+use Rattle.block.proofs.Words.{sym, subst, ℕ, Option, id_of}
 use Rattle.block.specs.Views.{shown}
 use Rattle.block.specs.Found.{MissingOf}
 use Rattle.block.proofs.FoundLaws.{found-missing}

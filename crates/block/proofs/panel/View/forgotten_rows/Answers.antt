@@ -1,9 +1,8 @@
 -- Those of the tables that the message cache stands in.
-use Rattle.std.proofs.Common.{lit<, ◌≡◌, ◌<◌, ◌≤◌, map, sym, ◌∙◌, subst, All}
-use Rattle.time_cache.specs.TimeCache.{expired_keys}
-use Rattle.time_cache.specs.Tables.{Lies, Sound, cache_at}
+use Rattle.block.proofs.Words.{lit<, ◌≡◌, ◌<◌, ◌≤◌, map, sym, ◌∙◌, subst, expired_keys, Lies, cache_at, TimeBoundCache}
+use Rattle.std.proofs.Common.{All}
+use Rattle.time_cache.specs.Tables.{Sound}
 use Rattle.time_cache.specs.Gone.{key_of_row}
-use Rattle.time_cache.specs.declared.cache.TimeBoundCache.{TimeBoundCache}
 use Rattle.block.proofs.CachesLaws.CachedLaws.{cached-lies, cached-sound, cached-few, cached-expired}
 use Rattle.block.proofs.panel.View.forgotten_rows.Goals as goal
 

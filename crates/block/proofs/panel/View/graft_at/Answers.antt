@@ -7,7 +7,7 @@ pub overflow_mul-result : goal.overflow_mul-result
 overflow_mul-result c = let v = c.args.self.now in omega (arith, entry-below v.head.now v.block.now v.sound c.args.entry c.requires, v.sound.fit.within, v.sound.fit.ceilings)
 
 pub overflow_add-result : goal.overflow_add-result
-overflow_add-result c = let v = c.args.self.now in omega (arith, entry-below v.head.now v.block.now v.sound c.args.entry c.requires, v.sound.fit.within, v.sound.fit.ceilings, c.grafted_at.ensures)
+overflow_add-result c = let v = c.args.self.now in omega (arith, entry-below v.head.now v.block.now v.sound c.args.entry c.requires, v.sound.fit.within, v.sound.fit.ceilings, c.start.ensures)
 
 pub returns-clause-within : goal.returns-clause-within
-returns-clause-within c = let v = c.args.self.now in omega (arith, entry-below v.head.now v.block.now v.sound c.args.entry c.requires, v.sound.fit, c.grafted_at.ensures)
+returns-clause-within c = let v = c.args.self.now in omega (arith, entry-below v.head.now v.block.now v.sound c.args.entry c.requires, v.sound.fit, c.start.ensures)

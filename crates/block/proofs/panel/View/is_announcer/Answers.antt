@@ -1,10 +1,7 @@
 -- No announcer passed is of the link.
-use Rattle.std.proofs.Common.{◌≡◌, refl, sym, ap, ◌∙◌, true, false, ℕ, ◌<◌, eq-eqb, ne_eqb, eqb, length, get_or, arith}
+use Rattle.block.proofs.Words.{◌≡◌, refl, sym, ap, ◌∙◌, true, false, ℕ, ◌<◌, eq-eqb, ne_eqb, eqb, length, get_or, arith, keys, up_of, State, Hop}
 use lib.ListN.{length-map}
 use Rattle.storage.specs.Lists.Base.{any}
-use Rattle.storage.specs.Lists.Map.{keys}
-use Rattle.time_cache.proofs.Orders.{up_of}
-use Rattle.protocol.specs.State.{State, Hop}
 use Rattle.block.specs.LinkSteps.{peer_at}
 use Rattle.block.specs.MissingSteps.{hop, hops_at, from_peer}
 use Rattle.block.specs.Views.{shown}

@@ -1,6 +1,5 @@
 -- No announcer passed is of the link.
-use Rattle.std.proofs.Common.{◌≡◌, false, take}
-use Rattle.storage.specs.Lists.Base.{any}
+use Rattle.block.proofs.Words.{◌≡◌, false, take, any}
 use Rattle.block.specs.LinkSteps.{peer_at}
 use Rattle.block.specs.MissingSteps.{hops_at, from_peer}
 use Rattle.block.specs.Views.{shown}

@@ -1,9 +1,5 @@
 -- Of the tables that the message cache stands in.
-use Rattle.std.proofs.Common.{◌≡◌, not, ap, ◌∙◌, List, subst}
-use Rattle.storage.specs.Lists.Base.{is_empty}
-use Rattle.time_cache.specs.TimeCache.{Expiry, due}
-use Rattle.time_cache.specs.Tables.{cache_at}
-use Rattle.time_cache.specs.declared.cache.TimeBoundCache.{TimeBoundCache}
+use Rattle.block.proofs.Words.{◌≡◌, not, ap, ◌∙◌, List, subst, is_empty, Expiry, due, cache_at, TimeBoundCache}
 use Rattle.block.proofs.CachesLaws.CachedLaws.{cached-expiry}
 use Rattle.block.proofs.panel.View.is_any_due.Goals as goal
 

@@ -1,8 +1,7 @@
 -- No peer passed is grafted over so few hops.
-use Rattle.std.proofs.Common.{◌≡◌, refl, sym, ap, ◌∙◌, Bool, ℕ, ◌<◌, le-leb, leb, length, take, get_or, take_all, arith}
+use Rattle.block.proofs.Words.{◌≡◌, refl, sym, ap, ◌∙◌, Bool, ℕ, ◌<◌, le-leb, leb, length, take, get_or, take_all, arith, Map, Entry, entry}
 use borrow.Author.Tests.{lt-leb}
 use Rattle.storage.specs.Lists.Base.{any}
-use Rattle.storage.specs.Lists.Map.{Map, Entry, entry}
 use Rattle.block.specs.Views.{shown}
 use Rattle.block.specs.Caches.GraftSteps.{grafts_at}
 use Rattle.block.proofs.Scans.{any_found, any-drop}

@@ -1,6 +1,5 @@
 -- No peer passed is grafted over so few hops.
-use Rattle.std.proofs.Common.{◌≡◌, false, leb, take}
-use Rattle.storage.specs.Lists.Base.{any}
+use Rattle.block.proofs.Words.{◌≡◌, false, leb, take, any}
 use Rattle.block.specs.Views.{shown}
 use Rattle.block.specs.Caches.GraftSteps.{grafts_at}
 use Rattle.block.proofs.panel.View.is_grafted_within.Given as goal

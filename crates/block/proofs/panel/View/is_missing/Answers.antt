@@ -1,5 +1,4 @@
-use Rattle.std.proofs.Common.{◌∙◌, []}
-use Rattle.storage.specs.Rows.Ident.{id_of}
+use Rattle.block.proofs.Words.{◌∙◌, [], id_of}
 use Rattle.block.specs.Views.{shown}
 use Rattle.block.proofs.KeyMembers.{found-has}
 use Rattle.block.proofs.panel.View.is_missing.Goals as goal

@@ -1,7 +1,5 @@
 -- Flag and peer read are the `kept` of the view.
-use Rattle.std.proofs.Common.{Some, sym, ◌∙◌, ◌+◌, get_or}
-use Rattle.storage.specs.Rows.Part.{part}
-use Rattle.storage.specs.Rows.Digits.{le_nat}
+use Rattle.block.proofs.Words.{Some, sym, ◌∙◌, ◌+◌, get_or, part, le_nat}
 use Rattle.block.proofs.GraftsLaws.ReadLaws.{read_kept, flag-none, flag-some}
 use Rattle.block.proofs.panel.View.kept_sender.Goals as goal
 

@@ -1,12 +1,10 @@
 -- The row read is the link of the state.
-use Rattle.std.proofs.Common.{ap, ◌∙◌, arith}
-use Rattle.storage.specs.Lists.Map.{Entry}
-use Rattle.protocol.specs.Links.{Mark, is_eager}
+use Rattle.block.proofs.Words.{ap, ◌∙◌, arith, Entry, Mark, is_eager}
 use Rattle.block.proofs.LinkLaws.{count-links}
 use Rattle.block.proofs.panel.View.link.Goals as goal
 
 pub load_link-peer-requires : goal.load_link-peer-requires
-load_link-peer-requires c = let v = c.args.self.now in (v.sound.fit, omega (arith, c.requires, count-links v.head.now v.block.now))
+load_link-peer-requires c = let v = c.args.self.now in record { fit = (v.sound.fit, v.laid_out); there = omega (arith, c.requires, count-links v.head.now v.block.now) }
 
 pub returns : goal.returns
 returns c =

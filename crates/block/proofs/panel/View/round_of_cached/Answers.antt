@@ -1,9 +1,6 @@
 -- The round of the entry that the search found.
-use Rattle.std.proofs.Common.{arith, ℕ, subst, Result}
+use Rattle.block.proofs.Words.{arith, ℕ, subst, Result, keys, id_of, FoundIs, Here}
 use lib.ListN.{length-map}
-use Rattle.storage.specs.Lists.Map.{keys}
-use Rattle.storage.specs.Rows.Ident.{id_of}
-use Rattle.storage.specs.Rows.Sorted.{FoundIs, Here}
 use Rattle.block.specs.Views.{shown}
 use Rattle.block.proofs.LookupLaws.{round-here, round-between}
 use Rattle.block.proofs.panel.View.round_of_cached.Goals as goal

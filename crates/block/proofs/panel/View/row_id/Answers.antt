@@ -1,9 +1,6 @@
 -- The key of the row, in the tables that the message cache stands in.
-use Rattle.std.proofs.Common.{◌≡◌, ◌<◌, sym, subst}
-use Rattle.storage.specs.Rows.Ident.{id_of}
-use Rattle.time_cache.specs.Tables.{Lies}
+use Rattle.block.proofs.Words.{◌≡◌, ◌<◌, sym, subst, id_of, Lies, TimeBoundCache}
 use Rattle.time_cache.specs.Gone.{key_of_row}
-use Rattle.time_cache.specs.declared.cache.TimeBoundCache.{TimeBoundCache}
 use Rattle.block.proofs.CachesLaws.CachedLaws.{cached-lies}
 use Rattle.block.proofs.panel.View.row_id.Goals as goal
 

@@ -1,16 +1,12 @@
 -- Count and answer are those of the rows passed.
-use Rattle.std.proofs.Common.{◌≡◌, refl, sym, ap, ◌∙◌, Bool, true, false, ◌&&◌, ℕ, ◌+◌, ◌<◌, eq-eqb, ne_eqb, eqb, length, take, get_or, take_all, arith, rules}
+use Rattle.block.proofs.Words.{◌≡◌, refl, sym, ap, ◌∙◌, Bool, true, false, ◌&&◌, ℕ, ◌+◌, ◌<◌, eq-eqb, ne_eqb, eqb, length, take, get_or, take_all, arith, rules, id_of, keys, State, Note, up_of}
 use lib.ListN.{length-map}
-use Rattle.storage.specs.Rows.Ident.{id_of}
 use Rattle.storage.specs.Lists.Base.{count, any}
-use Rattle.storage.specs.Lists.Map.{keys}
-use Rattle.protocol.specs.State.{State, Note}
 use Rattle.protocol.specs.Push.{for_peer, notes}
 use Rattle.block.specs.LinkSteps.{peer_at}
 use Rattle.block.specs.NoteSteps.{note}
 use Rattle.block.specs.Views.{shown}
 use Rattle.storage.proofs.ListsLaws.Firsts.{count-keep, count-drop}
-use Rattle.time_cache.proofs.Orders.{up_of}
 use Rattle.block.proofs.Scans.{keys-apart, any-keep, any-drop}
 use Rattle.block.proofs.panel.View.scan_dropped.Goals as goal
 use Rattle.block.proofs.panel.View.scan_dropped.Goals.{Joined-note_link-link, then-note_link-link+then-eq, then-note_link-link+else-eq, else-note_link-link}

@@ -1,7 +1,5 @@
 -- Count and answer are those of the rows passed.
-use Rattle.std.proofs.Common.{◌≡◌, ◌≤◌, take}
-use Rattle.storage.specs.Rows.Ident.{id_of}
-use Rattle.storage.specs.Lists.Base.{count, any}
+use Rattle.block.proofs.Words.{◌≡◌, ◌≤◌, take, id_of, count, any}
 use Rattle.protocol.specs.Push.{for_peer, notes}
 use Rattle.block.specs.LinkSteps.{peer_at}
 use Rattle.block.specs.Views.{shown}

@@ -1,8 +1,6 @@
 -- The search goes on until a peer that is not below the one sought.
-use Rattle.std.proofs.Common.{◌≡◌, ℕ, List, length, get_or, sym, ap, ◌∙◌, arith}
+use Rattle.block.proofs.Words.{◌≡◌, ℕ, List, length, get_or, sym, ap, ◌∙◌, arith, keys, up_of}
 use lib.ListN.{length-map}
-use Rattle.storage.specs.Lists.Map.{keys}
-use Rattle.time_cache.proofs.Orders.{up_of}
 use Rattle.block.specs.Views.{shown}
 use Rattle.block.specs.declared.links.NumberedLink.{NumberedLink}
 use Rattle.block.proofs.PanelLaws.{link-key}

@@ -1,6 +1,5 @@
 -- The links before i are below the peer.
-use Rattle.std.proofs.Common.{ℕ, ◌<◌, get_or}
-use Rattle.storage.specs.Lists.Map.{keys}
+use Rattle.block.proofs.Words.{ℕ, ◌<◌, get_or, keys}
 use Rattle.block.specs.Views.{shown}
 use Rattle.block.proofs.panel.View.search_links.Given as goal
 

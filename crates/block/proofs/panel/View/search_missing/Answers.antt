@@ -1,9 +1,5 @@
 -- The search is among the keys that the view shows.
-use Rattle.std.proofs.Common.{rules, sym, subst, List, ℕ}
-use Rattle.storage.specs.Rows.Ident.{id_of}
-use Rattle.storage.specs.Rows.Sorted.{Ascending, FoundIs}
-use Rattle.storage.specs.Lists.Map.{keys}
-use Rattle.time_cache.proofs.Orders.{up_of}
+use Rattle.block.proofs.Words.{rules, sym, subst, List, ℕ, id_of, Ascending, FoundIs, keys, up_of}
 use Rattle.block.specs.Views.{shown}
 use Rattle.block.proofs.MissingLaws.{missing-keys}
 use Rattle.block.proofs.panel.View.search_missing.Goals as goal
@@ -11,9 +7,9 @@ use Rattle.block.proofs.panel.View.search_missing.Goals as goal
 pub find-requires : goal.find-requires
 find-requires c =
     let v = c.args.self.now in
-    (search rules, subst Ascending (sym (missing-keys v.head.now v.block.now c.rows.result c.rows.ensures)) (up_of (keys (shown v).missing) c.requires))
+    (search rules, subst Ascending (sym (missing-keys v.head.now v.block.now c.span.result c.span.ensures)) (up_of (keys (shown v).missing) c.requires))
 
 pub returns : goal.returns
 returns c =
     let v = c.args.self.now in
-    subst (λ (ks : List ℕ). FoundIs ks (id_of c.args.id) c.find.result) (missing-keys v.head.now v.block.now c.rows.result c.rows.ensures) c.find.ensures
+    subst (λ (ks : List ℕ). FoundIs ks (id_of c.args.id) c.find.result) (missing-keys v.head.now v.block.now c.span.result c.span.ensures) c.find.ensures

@@ -1,7 +1,7 @@
 -- `lower::drop_in_list`: the numbers and rounds after the count, then the count.
-use Rattle.std.proofs.Common.{◌≡◌, sym, ap, ◌∙◌, subst, List, ◌++◌, ℕ, ◌-◌, length, take, drop, set, length-drop, take_all, arith}
+use Rattle.block.proofs.Words.{◌≡◌, sym, ap, ◌∙◌, subst, List, ◌++◌, ℕ, ◌-◌, length, take, drop, set, take_all, arith, lower_all, entries}
+use Rattle.std.proofs.Common.{length-drop}
 use Rattle.block.specs.Neighbours.Lowered.{listed_of, lower_listed}
-use Rattle.storage.specs.Refs.Numbers.{lower_all, entries}
 use Rattle.block.proofs.NeighboursLaws.LoweredRows.{list-after, list-lowered}
 use Rattle.block.proofs.renumber.lower.drop_in_list.Goals as goal
 

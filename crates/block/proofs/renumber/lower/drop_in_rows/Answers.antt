@@ -1,9 +1,6 @@
 -- `lower::drop_in_rows`: the lists of the first k rows are lowered, the other rows are as they were.
-use Rattle.std.proofs.Common.{◌≡◌, refl, ap, ◌∙◌, List, ◌++◌, ℕ, ◌+◌, ◌-◌, ◌*◌, ◌≤◌, length, get_or, take, drop, arith}
-use Rattle.storage.specs.Rows.Part.{part, put}
-use Rattle.storage.proofs.RowsLaws.Parts.{length_part, length-put, part-between, loan-put, get_d_part}
-use Rattle.storage.proofs.RowsLaws.Rows.{row-end}
-use Rattle.storage.proofs.RefsLaws.Shifts.{done, done-start, done_all}
+use Rattle.block.proofs.Words.{◌≡◌, refl, ap, ◌∙◌, List, ◌++◌, ℕ, ◌+◌, ◌-◌, ◌*◌, ◌≤◌, length, get_or, take, drop, arith, part, put, length_part, length-put, part-between, loan-put, get_d_part, row-end, done-start, done_all}
+use Rattle.storage.proofs.RefsLaws.Shifts.{done}
 use Rattle.block.specs.Neighbours.Lowered.{listed_of, listed, lower_listed}
 use Rattle.block.proofs.NeighboursLaws.LoweredRows.{no_listed, count-was, rows_more, length-listed}
 use Rattle.block.proofs.renumber.lower.drop_in_rows.Goals as goal

@@ -1,10 +1,6 @@
 -- `renumber::raise_rows`: the numbers of the first k rows are raised, the other rows are as they were.
-use Rattle.std.proofs.Common.{◌≡◌, refl, sym, ap, ◌∙◌, subst, List, [], ℕ, ◌+◌, ◌*◌, ◌≤◌, length, get_or, arith}
-use Rattle.storage.specs.Rows.Part.{part}
-use Rattle.storage.specs.Rows.Rows.{rows}
-use Rattle.storage.proofs.RowsLaws.Rows.{length-rows, row-end}
-use Rattle.storage.specs.Refs.Refs.{Below}
-use Rattle.storage.proofs.RefsLaws.Shifts.{done, done-start, done_all}
+use Rattle.block.proofs.Words.{◌≡◌, refl, sym, ap, ◌∙◌, subst, List, [], ℕ, ◌+◌, ◌*◌, ◌≤◌, length, get_or, arith, part, rows, length-rows, row-end, Below, done-start, done_all}
+use Rattle.storage.proofs.RefsLaws.Shifts.{done}
 use Rattle.block.specs.View.{byte_at}
 use Rattle.block.specs.Neighbours.Raised.{raised_row}
 use Rattle.block.proofs.NeighboursLaws.RaisedRows.{few-in, below_in, count-was, numbers-were, rows_more}

@@ -1,6 +1,5 @@
 -- `renumber::raise_rows`: the numbers of the first k rows are raised, the other rows are as they were.
-use Rattle.std.proofs.Common.{◌≡◌, [], length}
-use Rattle.storage.specs.Rows.Rows.{rows}
+use Rattle.block.proofs.Words.{◌≡◌, [], length, rows}
 use Rattle.storage.proofs.RefsLaws.Shifts.{done}
 use Rattle.block.specs.Neighbours.Raised.{raised_row}
 use Rattle.block.proofs.renumber.raise.raise_rows.Given as goal

@@ -1,11 +1,6 @@
-use Rattle.std.proofs.Common.{◌≡◌, sym, ◌∙◌, ap, arith, Bool, true, false, ◌<◌, length, get_or, eq-eqb, eqb, length-set}
-use Rattle.storage.specs.Rows.Ident.{id_of}
-use Rattle.protocol.specs.State.{Note}
-use Rattle.block.specs.LinkSteps.{peer_at}
+use Rattle.payloads.proofs.Words.{◌≡◌, sym, ◌∙◌, ap, arith, Bool, true, false, ◌<◌, length, get_or, eq-eqb, eqb, length-set, id_of, Note, peer_at, links-few, shown}
 use Rattle.block.specs.NoteSteps.{note}
 use Rattle.block.proofs.LinkLaws.{count-links}
-use Rattle.block.proofs.ViewLaws.{links-few}
-use Rattle.block.specs.Views.{shown}
 use Rattle.payloads.proofs.EagerLaws.ScanLaws.{seen_start, seen_end, seen-passed, seen-set, seen_same, seen_one}
 use Rattle.payloads.proofs.eager_push.notes.marks_after.Goals as goal
 use Rattle.payloads.proofs.eager_push.notes.marks_after.Goals.{then-marks-link-lt-MAX_DROPPED_PER_PEER, then-same, else-same, else-marks-link-lt-MAX_DROPPED_PER_PEER}

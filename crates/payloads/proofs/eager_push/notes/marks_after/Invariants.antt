@@ -1,5 +1,4 @@
-use Rattle.std.proofs.Common.{◌≡◌, length}
-use Rattle.storage.specs.Rows.Ident.{id_of}
+use Rattle.payloads.proofs.Words.{◌≡◌, length, id_of}
 use Rattle.payloads.proofs.EagerLaws.ScanLaws.{SeenSofar}
 use Rattle.payloads.proofs.eager_push.notes.marks_after.Given as goal
 

@@ -1,6 +1,5 @@
 -- `announcers`: the lists of table 9.
-use Rattle.std.proofs.Common.{rules, ◌∙◌, arith, lit<}
-use Rattle.block.specs.View.{limits_of}
+use Rattle.whole.proofs.Words.{rules, ◌∙◌, arith, lit<, limits_of}
 use Rattle.whole.specs.Parts.{missed_list}
 use Rattle.whole.proofs.LentLaws.{lists-lent}
 use Rattle.whole.proofs.HopLaws.{missing-lists}
@@ -10,7 +9,7 @@ pub returns : goal.returns
 returns c =
     let h = c.args.self.now.head.now in
     let xs = c.args.self.now.block.now in
-    let at = c.missing_at-at in
+    let at = c.start-at in
     c.lists_pass.ensures (missed_list h.live.links) (λ list r t. search rules)
     ∙ lists-lent (limits_of h.limits) xs (missed_list h.live.links) 32 9 129 h.live.missing at.result (lit< tt) (omega (arith, c.args.self.now.fit.within.missing)) at.ensures
     ∙ missing-lists h xs c.args.self.now.fit c.requires

@@ -1,14 +1,6 @@
 -- `contents_used`: the lengths of the rows of table 5 that the entries of table 4 name.
-use Rattle.std.proofs.Common.{◌≡◌, sym, ap, ◌∙◌, subst, true, List, ℕ, ◌-◌, arith, eqb, lit<, length, take, drop}
-use Rattle.storage.specs.Lists.Base.{sum}
-use Rattle.storage.specs.Rows.Rows.{rows}
-use Rattle.storage.specs.Refs.Refs.{Ref, Below, refs, places}
-use Rattle.time_cache.proofs.Orders.{below_of}
-use Rattle.protocol.specs.Whole.{content_held}
+use Rattle.whole.proofs.Words.{◌≡◌, sym, ap, ◌∙◌, subst, true, List, ℕ, ◌-◌, arith, eqb, lit<, length, take, drop, sum, rows, Ref, Below, refs, places, below_of, content_held, limits_of, state_of, Fit, Head}
 use Rattle.block.specs.Layout.{place}
-use Rattle.block.specs.View.{limits_of, state_of}
-use Rattle.block.specs.Fit.{Fit}
-use Rattle.block.specs.declared.head.Head.{Head}
 use Rattle.whole.specs.Held.{places_name}
 use Rattle.whole.specs.Parts.{table_of, length_at, cached_in_order}
 use Rattle.whole.proofs.LentLaws.{cache-below, rows-lent, refs-lent, length-open}
@@ -33,8 +25,8 @@ named_lengths-total-requires c =
     let h = c.args.self.now.head.now in
     let xs = c.args.self.now.block.now in
     let fit = c.args.self.now.fit in
-    let at = c.cached_at-at in
-    let rows_at = c.cached_rows_at-rows_at in (
+    let at = c.start-at in
+    let rows_at = c.start-rows_at in (
       omega (arith, fit.ceilings.C, fit.within.cached),
       omega (arith, length-open at.result xs, at.ensures, fit.within.cached, fit.long),
       omega (arith, length-open rows_at.result xs, rows_at.ensures, fit.within.cached_rows, fit.long),
@@ -47,8 +39,8 @@ returns c =
     let h = c.args.self.now.head.now in
     let xs = c.args.self.now.block.now in
     let fit = c.args.self.now.fit in
-    let at = c.cached_at-at in
-    let rows_at = c.cached_rows_at-rows_at in
+    let at = c.start-at in
+    let rows_at = c.start-rows_at in
     let total : c.named_lengths-total.result ≡ content_held (state_of h xs) =
     c.named_lengths-total.ensures
     ∙ (λ k. sum (length_at (expiry-lent h xs rows_at.result fit rows_at.ensures k)) (places (entries-lent h xs at.result fit at.ensures k)))

@@ -1,11 +1,6 @@
 -- `dropped_few`: how often each number of table 13 stands.
-use Rattle.std.proofs.Common.{◌≡◌, sym, ap, ◌∙◌, subst, List, ℕ, ◌+◌, ◌-◌, arith, lit<, take, drop}
-use Rattle.storage.specs.Refs.Refs.{Below}
-use Rattle.time_cache.proofs.Orders.{below_of}
+use Rattle.whole.proofs.Words.{◌≡◌, sym, ap, ◌∙◌, subst, List, ℕ, ◌+◌, ◌-◌, arith, lit<, take, drop, Below, below_of, limits_of, Fit, Head}
 use Rattle.block.specs.Layout.{place}
-use Rattle.block.specs.View.{limits_of}
-use Rattle.block.specs.Fit.{Fit}
-use Rattle.block.specs.declared.head.Head.{Head}
 use Rattle.whole.specs.Parts.{table_of, few}
 use Rattle.whole.proofs.LentLaws.{bytes-lent}
 use Rattle.whole.proofs.RecordLaws.{record-few}
@@ -20,7 +15,7 @@ few_each-requires c =
     let h = c.args.self.now.head.now in
     let xs = c.args.self.now.block.now in
     let fit = c.args.self.now.fit in
-    let at = c.dropped_at-at in
+    let at = c.start-at in
     let b = below_of h.live.links (take h.live.dropped (table_of h 13 xs)) c.requires.named in
     subst (λ (l : List ℕ). Below 32 l) (sym (lent h xs at.result fit at.ensures)) (record { below = λ i q. omega (arith, b.below i q, fit.within.links, fit.ceilings.N) })
 
@@ -28,5 +23,5 @@ pub returns : goal.returns
 returns c =
     let h = c.args.self.now.head.now in
     let xs = c.args.self.now.block.now in
-    let at = c.dropped_at-at in
+    let at = c.start-at in
     c.few_each.ensures ∙ ap few (lent h xs at.result c.args.self.now.fit at.ensures) ∙ record-few h xs c.args.self.now.fit c.requires.links c.requires.named

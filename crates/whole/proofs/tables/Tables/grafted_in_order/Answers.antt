@@ -1,11 +1,8 @@
 -- `grafted_in_order`: the test of the time cache in tables 7 and 8.
-use Rattle.std.proofs.Common.{◌≡◌, ap, ◌∙◌, List, ℕ, arith, lit<}
+use Rattle.whole.proofs.Words.{◌≡◌, ap, ◌∙◌, List, ℕ, arith, lit<, sound, limits_of, grafts_of, Fit, Head}
 use Rattle.storage.specs.Lists.Map.{keys}
-use Rattle.time_cache.specs.Tables.{sound}
 use Rattle.time_cache.specs.declared.cache.TimeBoundCache.{TimeBoundCache}
-use Rattle.block.specs.View.{limits_of, state_of, grafted_in, grafts_of}
-use Rattle.block.specs.Fit.{Fit}
-use Rattle.block.specs.declared.head.Head.{Head}
+use Rattle.block.specs.View.{state_of, grafted_in}
 use Rattle.block.specs.TimeCaches.{grafted_cache}
 use Rattle.whole.specs.Parts.{grafted_in_order}
 use Rattle.whole.proofs.LentLaws.{cache-sound}
@@ -17,4 +14,4 @@ told h xs fit = cache-sound (limits_of h.limits) xs (grafts_of (keys (state_of h
 
 pub returns : goal.returns
 returns c =
-    c.is_sound.ensures ∙ ap (λ (t : TimeBoundCache). sound t c.args.self.now.block.now) c.table.ensures.at ∙ told c.args.self.now.head.now c.args.self.now.block.now c.args.self.now.fit
+    c.is_sound.ensures ∙ ap (λ (t : TimeBoundCache). sound t c.args.self.now.block.now) c.tables.ensures.at ∙ told c.args.self.now.head.now c.args.self.now.block.now c.args.self.now.fit

@@ -1,10 +1,7 @@
 -- `links_whole`: the first i peers ascend; a turn compares neighbours.
-use Rattle.std.proofs.Common.{true, false, arith}
+use Rattle.whole.proofs.Words.{true, false, arith, tells-ascending, state_of, count-peers}
 use Rattle.storage.specs.Lists.Map.{keys}
 use Rattle.storage.proofs.RowsLaws.Sorted.{ascend-more, ascend-done, ascend-not}
-use Rattle.time_cache.proofs.Orders.{tells-ascending}
-use Rattle.block.specs.View.{state_of}
-use Rattle.block.proofs.LinkLaws.{count-peers}
 use Rattle.whole.specs.Parts.{links_whole}
 use Rattle.whole.proofs.tables.Tables.links_whole.Goals as goal
 

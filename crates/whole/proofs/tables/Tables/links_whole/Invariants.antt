@@ -1,8 +1,7 @@
 -- `links_whole`: the first i peers ascend; a turn compares neighbours.
-use Rattle.std.proofs.Common.{◌<◌}
+use Rattle.whole.proofs.Words.{◌<◌, state_of}
 use Rattle.storage.specs.Lists.Map.{keys}
 use Rattle.storage.proofs.RowsLaws.Sorted.{AscendTo}
-use Rattle.block.specs.View.{state_of}
 use Rattle.whole.proofs.tables.Tables.links_whole.Given as goal
 
 abbrev pub invariant-loop-i : goal.invariant-loop-i

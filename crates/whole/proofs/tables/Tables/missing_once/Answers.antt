@@ -1,13 +1,9 @@
 -- `missing_once`: the keys of table 9.
-use Rattle.std.proofs.Common.{◌≡◌, sym, ap, ◌∙◌, List, ℕ, ◌-◌, arith, lit<, length, take, drop}
+use Rattle.whole.proofs.Words.{◌≡◌, sym, ap, ◌∙◌, List, ℕ, ◌-◌, arith, lit<, length, take, drop, ascending, rows, tells-ascending, limits_of, Head}
 use mathlib.Core.List.{map-map}
-use Rattle.storage.specs.Lists.Base.{ascending}
 use Rattle.storage.specs.Lists.Map.{keys}
-use Rattle.storage.specs.Rows.Rows.{rows}
 use Rattle.storage.specs.Rows.Sorted.{key_of, keys as row_keys}
-use Rattle.time_cache.proofs.Orders.{tells-ascending}
-use Rattle.block.specs.View.{limits_of, id_at, missed_of, missing_in, state_of}
-use Rattle.block.specs.declared.head.Head.{Head}
+use Rattle.block.specs.View.{id_at, missed_of, missing_in, state_of}
 use Rattle.whole.specs.Parts.{table_of}
 use Rattle.whole.proofs.LentLaws.{keys-lent}
 use Rattle.whole.proofs.tables.Tables.missing_once.Goals as goal
@@ -21,6 +17,6 @@ pub returns : goal.returns
 returns c =
     let h = c.args.self.now.head.now in
     let xs = c.args.self.now.block.now in
-    let at = c.missing_at-at in
+    let at = c.start-at in
     tells-ascending (row_keys 129 h.live.missing (take (length xs - at.result) (drop at.result xs))) c.ascending.result c.ascending.ensures
     ∙ ap ascending (keys-lent (limits_of h.limits) xs 9 129 h.live.missing at.result (lit< tt) (omega (arith, c.args.self.now.fit.within.missing)) at.ensures ∙ told h xs)

@@ -1,10 +1,7 @@
 -- `received_whole`: the test of the time cache in tables 2 and 3.
-use Rattle.std.proofs.Common.{◌≡◌, ap, ◌∙◌, List, ℕ, arith, lit<}
-use Rattle.time_cache.specs.Tables.{sound}
+use Rattle.whole.proofs.Words.{◌≡◌, ap, ◌∙◌, List, ℕ, arith, lit<, sound, limits_of, nothing_of, Fit, Head}
 use Rattle.time_cache.specs.declared.cache.TimeBoundCache.{TimeBoundCache}
-use Rattle.block.specs.View.{limits_of, state_of, received_in, nothing_of}
-use Rattle.block.specs.Fit.{Fit}
-use Rattle.block.specs.declared.head.Head.{Head}
+use Rattle.block.specs.View.{state_of, received_in}
 use Rattle.block.specs.TimeCaches.{received_cache}
 use Rattle.whole.specs.Parts.{received_whole}
 use Rattle.whole.proofs.LentLaws.{cache-sound}
@@ -16,4 +13,4 @@ told h xs fit = cache-sound (limits_of h.limits) xs nothing_of 2 2 h.live.receiv
 
 pub returns : goal.returns
 returns c =
-    c.is_sound.ensures ∙ ap (λ (t : TimeBoundCache). sound t c.args.self.now.block.now) c.table.ensures.at ∙ told c.args.self.now.head.now c.args.self.now.block.now c.args.self.now.fit
+    c.is_sound.ensures ∙ ap (λ (t : TimeBoundCache). sound t c.args.self.now.block.now) c.tables.ensures.at ∙ told c.args.self.now.head.now c.args.self.now.block.now c.args.self.now.fit

@@ -1,10 +1,7 @@
 -- `timers_whole`: the keys of table 10.
-use Rattle.std.proofs.Common.{◌≡◌, refl, ap, ◌∙◌, List, ℕ, ◌-◌, arith, lit<, length, take, drop}
-use Rattle.storage.specs.Lists.Base.{ascending}
+use Rattle.whole.proofs.Words.{◌≡◌, refl, ap, ◌∙◌, List, ℕ, ◌-◌, arith, lit<, length, take, drop, ascending, tells-ascending, limits_of, Head}
 use Rattle.storage.specs.Rows.Sorted.{key_of, keys}
-use Rattle.time_cache.proofs.Orders.{tells-ascending}
-use Rattle.block.specs.View.{limits_of, id_at, timers_in, state_of}
-use Rattle.block.specs.declared.head.Head.{Head}
+use Rattle.block.specs.View.{id_at, timers_in, state_of}
 use Rattle.whole.specs.Parts.{table_of, timers_whole}
 use Rattle.whole.proofs.LentLaws.{keys-lent}
 use Rattle.whole.proofs.tables.Tables.timers_whole.Goals as goal
@@ -19,6 +16,6 @@ unfolding timers_whole
 returns c =
     let h = c.args.self.now.head.now in
     let xs = c.args.self.now.block.now in
-    let at = c.timers_at-at in
+    let at = c.start-at in
     tells-ascending (keys 32 h.live.timers (take (length xs - at.result) (drop at.result xs))) c.ascending.result c.ascending.ensures
     ∙ ap ascending (keys-lent (limits_of h.limits) xs 10 32 h.live.timers at.result (lit< tt) (omega (arith, c.args.self.now.fit.within.timers)) at.ensures ∙ told h xs)

@@ -1,7 +1,6 @@
 -- `QueuedIhave::encode`: the beginning, then the entries.
 use lib.ListN.{length-map}
-use Rattle.block.specs.NoteSteps.{note_at}
-use Rattle.block.specs.Views.{shown}
+use Rattle.announcements.proofs.Words.{note_at, shown}
 use Rattle.announcements.specs.QueuedRows.{ihave_of, ihaves_at}
 use Rattle.announcements.proofs.OnDispatchLaws.RowLaws.{ihave-after}
 use Rattle.announcements.proofs.on_dispatch_timer.ihave.QueuedIhaveEncode.encode.Goals as goal

@@ -349,7 +349,8 @@ struct plumtree_stats {
 /* Link room: how many sends of this call the link to a peer takes. "The first entry for a peer counts, a peer without one has no bound, and
  * the k-th send of a call to a peer is taken when k <= room." Of a socket it is the free bytes, divided by M + 1 and the bytes of the host's
  * framing, rounded down. A link that is not there yet, or is broken and will come back, has room 0: what a link is said to take and then loses is
- * not sent again. So a link acknowledges what came: bare datagrams lose readings. */
+ * not sent again. So a link acknowledges what came: bare datagrams lose readings. An entry for each neighbour is enough: the time of a call grows
+ * with a longer list. It is not read at events that send nothing (a Prune, an IHave, EvictCache, AnnounceDropped, a neighbour up or down). */
 struct plumtree_link_room {
     uint64_t peer;
     uint16_t room;

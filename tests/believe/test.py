@@ -17,7 +17,7 @@ protocol.NoNeighbourPassedOver.NoNeighbourPassedOver protocol.AlikeUnordered.sam
 OUT = """
 storage.Rows.Part.Only storage.Rows.Sorted.Ascending storage.Refs.Once.Numbers postcard.Output.FitsAt wire.Reader.Gives.Decodes
 decide.Settled.settled alike.NoteTable.NextOf block.Becomes.Becomes block.Sound.Sound whole.States.Calls.Placed protocol.AlikeCalls.Peerwise.Like block.Panels.AtRest machine.Kinds.Meaning.peer_of machine.Core.Begins machine.Core.core_rooms
-machine.Decided.decided machine.Steps.Asked plumtree.Rooms.Found plumtree.Peers.Sender panel.Records.Reading.Whole
+machine.Decided.decided machine.Steps.Asked plumtree.Rooms.RoomsFound plumtree.Peers.Reaches panel.Records.Reading.Whole
 """
 
 # The laws that tell numbers of the code.

@@ -37,6 +37,11 @@ LEVELS = {
     "blake3::tree::subtree": 54,
     # The first size is a fourth of a slice's length, and each other half of the one before; one below 2,048 is the last.
     "blake3::lanes::quarters": 51,
+    # It sorts at most 256 identifiers, those of a link in a record (`storage::notes`). A call may make 2 * log2(256) partitions before a heap sort takes over, and each
+    # call that it makes one less.
+    "core::slice::sort::unstable::quicksort::<#d3d4493f0044f892>": 17,
+    # Of the same identifiers: the first size is an eighth of their number, 32 at most, and each other an eighth of the one before; one below 8 is the last.
+    "core::slice::sort::pivot::median_of_medians::<#d3d4493f0044f892>": 2,
 }
 
 Instruction = namedtuple("Instruction", "place next name operands text reference")

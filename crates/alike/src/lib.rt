@@ -16,8 +16,6 @@ ghost use Rattle.whole.specs.Held.{held};
 ghost use Rattle.alike.specs.Answer.{answered};
 
 use block::head::{Limits, Settings};
-use block::header;
-use block::layout::Layout;
 use block::note::NoteTable;
 use block::panel::View;
 use sequences::Sequence;
@@ -112,24 +110,28 @@ fn same_states(x: &View, y: &View) -> bool
 pub fn alike(a: &[u8], b: &[u8]) -> Option<bool>
     ensures { answered result ≡ alike_blocks (length a.now) (held a.now) (length b.now) (held b.now) }
 {
-    if !whole::is_whole(a) {
+    if !whole::has_limits(a) {
         return None;
     }
-    if !whole::is_whole(b) {
+    if !whole::has_limits(b) {
         return None;
     }
-    let head_a = header::load_head(a);
-    let head_b = header::load_head(b);
-    let layout_a = Layout::of(head_a.limits);
-    let layout_b = Layout::of(head_b.limits);
+    let opened_a = whole::open(a);
+    let opened_b = whole::open(b);
+    if !whole::is_whole_of(&opened_a, a) {
+        return None;
+    }
+    if !whole::is_whole_of(&opened_b, b) {
+        return None;
+    }
     let x = View {
-        head: &head_a,
-        layout: &layout_a,
+        head: &opened_a.head,
+        layout: &opened_a.layout,
         block: a,
     };
     let y = View {
-        head: &head_b,
-        layout: &layout_b,
+        head: &opened_b.head,
+        layout: &opened_b.layout,
         block: b,
     };
     Some(same_states(&x, &y))

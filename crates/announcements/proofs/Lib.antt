@@ -1,4 +1,5 @@
 pub mod IhavesLaws
+pub mod CachedRowsLaws
 pub mod AnnounceLaws
 pub mod OnSendGraftTimerLaws
 pub mod OnIhaveLaws

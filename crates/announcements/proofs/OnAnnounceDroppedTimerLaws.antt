@@ -1,6 +1,6 @@
 -- AnnounceDropped: the pass over the record, of states; what moves and what stays, as numbers and as questions; and the step.
 -- Assumes nothing.
-use Rattle.announcements.proofs.Words.{◌≡◌, ℕ, ◌+◌, ◌≤◌, ◌<◌, zero-le, length, get_or, set, take, drop, replicate, refl, sym, ap, ◌∙◌, arith, Bool, true, false, not, ◌||◌, ltb, List, [], ◌∷◌, ◌++◌, append_assoc, if◌then◌else◌, subst, append-nil, leb-true, lt-ltb, length-append, is_empty, keys, id_of, cases, true≢, and_left, and_right, filter-append, length-filter, count-length, concat-append, holds, Action, action_bytes, State, Note, zero_counts, with_queue, with_dropped, with_dispatch_scheduled, with_announce_scheduled, Run, begin, for_peer, settled, Sizes, sized_queued, sized_recorded, announce_action, note, note_for, queue_also, drop_instead, NoteOf, record_cut, Intake, after_nil, AtRest, Allowed, sizes_value, settled-as}
+use Rattle.announcements.proofs.Words.{◌≡◌, ℕ, ◌+◌, ◌≤◌, ◌<◌, zero-le, length, get_or, set, take, drop, replicate, refl, sym, ap, ◌∙◌, arith, Bool, true, false, not, ◌||◌, ltb, List, [], ◌∷◌, ◌++◌, append_assoc, if◌then◌else◌, subst, append-nil, add-zero, nil_from_length, leb-true, lt-ltb, length-append, is_empty, keys, id_of, cases, true≢, and_left, and_right, filter-append, length-filter, count-length, concat-append, holds, Action, action_bytes, State, Note, zero_counts, with_queue, with_dropped, with_dispatch_scheduled, with_announce_scheduled, Run, begin, for_peer, settled, Sizes, sized_queued, sized_recorded, announce_action, note, note_for, queue_also, drop_instead, NoteOf, record_cut, Intake, after_nil, AtRest, Allowed, sizes_value, settled-as}
 use Rattle.std.proofs.Common.{take-append-drop, take_all}
 use lib.ListN.{length-map}
 use Rattle.storage.specs.Lists.Base.{filter, count, concat_map}
@@ -194,6 +194,15 @@ module _ (now : ℕ) (s : State) where
   unfolding sizes_of
   queued-of z w = ap (λ (y : Sizes). y.queued) w ∙ ap length same-queue
 
+  -- of no record
+  pub sized-none : (z : Sizes) → z ≡ sizes_of t → length s.dropped ≡ 0 → z ≡ sizes_of (announce_state t)
+  unfolding sizes_of
+  sized-none z w none =
+      let queued : z.queued ≡ length s.queue + 0 = ap (λ (y : Sizes). y.queued) w ∙ ap length same-queue ∙ sym (add-zero (length s.queue)) in
+      let dropped : z.recorded ≡ 0 = ap (λ (y : Sizes). y.recorded) w ∙ ap length same-dropped ∙ none in
+      (λ k. sized_queued (queued k) (sized_recorded (dropped k) z))
+      ∙ sized-end 0 0 0 (length s.queue) z w refl (omega arith) (ap length (sym (oldest-start held_then s))) (ap length (sym (younger-start held_then s)))
+
   -- the actions
   pub stands-bytes : (b c : Bool) → b ≡ queue_stands t → c ≡ record_stands t
       → announce_bytes t ≡ concat_map action_bytes (if b then dispatch_action s else []) ++ concat_map action_bytes (announce_action c false)
@@ -330,6 +339,16 @@ module _ (s : State) (asks : Allowed announce_state s) where
         ap (record_cut k) so
         ∙ (λ t. with_dropped (first t) (with_queue (s.queue ++ oldest [] (so_far i)) s))
         ∙ (λ t. with_dropped (younger [] (all t)) (with_queue (s.queue ++ oldest [] (all t)) s))
+
+-- of no record nothing moves
+pub move-none : (s : State) → Allowed announce_state s → length s.dropped ≡ 0 → s ≡ moved_state s
+move-none s asks none =
+    (λ k. with_dropped (nil_from_length s.dropped none k) s)
+    ∙ ap (λ (ns : List Note). with_dropped ns s) (sym (take_none s.dropped))
+    ∙ move-end s asks 0 s (move-start s asks) zero-le 0 (ap length (sym (younger-start (held_now s) s))) (omega arith)
+  where
+    take_none : (ns : List Note) → take 0 ns ≡ []
+    take_none ns = refl
 
 -- the flags
 

@@ -7,3 +7,4 @@ pub mod OnAnnounceDroppedTimer
 pub mod OnDispatchTimer
 pub mod QueuedRows
 pub mod Marks
+pub mod CachedRows

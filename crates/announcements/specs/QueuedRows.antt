@@ -1,12 +1,12 @@
 -- Rows of the queue, and what is sent and noted of them.
 -- Assumes nothing.
-use Rattle.std.specs.Prelude.{ℕ, ◌<◌, ◌≡◌, Bool, true, not, ◌||◌, List, [], ◌∷◌, ◌++◌, map, length, All, eqb, if◌then◌else◌}
+use Rattle.std.specs.Prelude.{ℕ, ◌<◌, ◌≤◌, ◌≡◌, Bool, true, not, ◌||◌, List, [], ◌∷◌, ◌++◌, map, length, All, eqb, if◌then◌else◌}
 use Rattle.storage.specs.Lists.Base.{any}
 use Rattle.postcard.specs.Message.{Ihave, IHave, AnnounceDropped, Action, Sent, Scheduled}
 use Rattle.protocol.specs.State.{State, Note}
 use Rattle.protocol.specs.Run.{Room}
 use Rattle.protocol.specs.Ticks.{queued_for, queued_peers, per_message}
-use Rattle.protocol.specs.declared.TheConstants.{ANNOUNCE_DROPPED_INTERVAL}
+use Rattle.protocol.specs.declared.TheConstants.{ANNOUNCE_DROPPED_INTERVAL, MAX_DROPPED}
 use Rattle.decide.specs.RecordGrowth.{cached_in, add_batches}
 use Rattle.decide.specs.Settled.{settled}
 use Rattle.decide.specs.StateAfter.{recorded_state}
@@ -80,6 +80,8 @@ pub record LinkPart (s : State) (l : ℕ) (rows : List ℕ) : Type 0 where
 abbrev pub noted_again : List ℕ → State → State
 noted_again rows s = recorded_state (s.dropped ++ notes_at s.queue rows) s
 
--- what is handed back of the queue is noted
-abbrev pub back_noted : Call → State → State
-back_noted call s = recorded_state (add_batches (cached_in s.cache) (dispatch_batches (rooms_of call s) (queued_peers s.queue) (per_message s.settings.max_message_size) s.queue) s.dropped) s
+-- these rows of the queue are what is handed back and noted
+pub record NotedBack (call : Call) (s : State) (rows : List ℕ) : Type 0 where
+  pub few : length rows ≤ MAX_DROPPED
+  pub among : RowsOf s.queue rows
+  pub noted : add_batches (cached_in s.cache) (dispatch_batches (rooms_of call s) (queued_peers s.queue) (per_message s.settings.max_message_size) s.queue) s.dropped ≡ s.dropped ++ notes_at s.queue rows

@@ -35,10 +35,10 @@ MissingOf s id (Some i) = MissingAt s id i
 MissingOf s id None = announcers id s ≡ []
 
 -- the peer of a link with a round
-abbrev pub hop_of : State → LinkHop → Hop
-hop_of s k = hop (peer_at s k.link) k.round.0
+abbrev pub hop_value : State → LinkHop → Hop
+hop_value s k = hop (peer_at s k.link) k.round.0
 
 -- the announcer by the number of its link
 pub record HopOf (s : State) (h : Hop) (k : LinkHop) : Type 0 where
   pub below : k.link < length s.links
-  pub same : h ≡ hop_of s k
+  pub same : h ≡ hop_value s k

@@ -26,8 +26,7 @@ use Rattle.storage.proofs.ListsLaws.ListLaws.{all_append, all-imp, all_map, all-
 use Rattle.protocol.proofs.Consistent.{whole-consistent}
 use Rattle.protocol.proofs.ConsistentTables.{queued-near}
 use Rattle.protocol.proofs.WholeKept.{known-announcers, kept-first_event}
-use Rattle.storage.proofs.ListsLaws.Branches.{if-on, if-same}
-use Rattle.decide.proofs.SettledLaws.{first-state}
+use Rattle.decide.proofs.SettledLaws.{first-state, settled-links}
 use Rattle.decide.proofs.PushLaws.{targets-near}
 use Rattle.decide.proofs.Dispatch.{near-pieces}
 use Rattle.decide.proofs.EachEvent.{decide-actions}
@@ -268,11 +267,6 @@ module _ (b : Bool) (hash : List ℕ → ℕ) (rooms : List Room) (s : State) (x
   unfolding broadcast_actions
   broadcast-in id content =
       append b (alone s) _ _ (dispatching b (alone s) s) (pushed b (alone s) rooms _ _ _ (alone-all s (eager_targets s.settings.me [] s) (targets-near s.settings.me [] s)))
-
--- the settled state has the same links, and is consistent
-settled-links : (now : ℕ) (s : State) → (settled now s).links ≡ s.links
-unfolding settled
-settled-links now s = if-on (λ (t : State). t.links) s.init _ _ ∙ if-same s.init refl refl
 
 on-links : (b : Bool) (g : ℕ → Bool) (xs : List Action) (l l' : Links) → l ≡ l' → Within b (λ q. is_neighbour q l || g q) xs → Within b (λ q. is_neighbour q l' || g q) xs
 on-links b g xs l l' e h = subst (λ (m : Links). Within b (λ q. is_neighbour q m || g q) xs) e h

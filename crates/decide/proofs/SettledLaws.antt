@@ -82,6 +82,11 @@ pub first-rooms : (now : ℕ) (r : Run) → (first_event now r).rooms ≡ r.room
 unfolding first_event on_evict_cache_timer act
 first-rooms now r = if-on (λ (x : Run). x.rooms) r.state.init _ _ ∙ if-same r.state.init refl refl
 
+-- the settled state has the same links
+pub settled-links : (now : ℕ) (s : State) → (settled now s).links ≡ s.links
+unfolding settled
+settled-links now s = if-on (λ (x : State). x.links) s.init _ _ ∙ if-same s.init refl refl
+
 -- the sizes of the settled state, of the state before
 pub settled-sizes : (now : ℕ) (s : State) → sizes_of (settled now s) ≡ settled_sizes now s
 unfolding settled settled_sizes evict_sizes sizes_of content_held

@@ -14,7 +14,7 @@ use Rattle.steps.specs.declared.call.Rooms.{Rooms}
 use Rattle.whole.specs.Held.{held}
 use Rattle.whole.proofs.HeldLaws.{Wholly}
 use Rattle.machine.specs.Core.{begun, event_peer, event_size, core_rooms}
-use Rattle.machine.specs.Decided.{size_fits, Planned, stop_limit, answered, event_plan}
+use Rattle.machine.specs.Decided.{size_fits, Planned, stop_limit, limit_found, answered, event_plan}
 use Rattle.machine.specs.Limit.{limit_number, limit_told}
 use Rattle.machine.specs.LimitMet.LimitMet.{limit_past, is13, asking, past_after, limit_of, limit_met}
 use Rattle.machine.specs.declared.event.Stop.{Stop}
@@ -32,6 +32,10 @@ limit_if x (accepted s c bytes) = 0
 abbrev pub limit_in : Result Planned Stop → ℕ
 limit_in (Ok p) = 0
 limit_in (Err stop) = limit_told (stop_limit stop)
+
+pub found-in : (x : Result Planned Stop) → limit_told (limit_found x) ≡ limit_in x
+found-in (Ok p) = refl
+found-in (Err stop) = refl
 
 -- upon the state of a whole block
 past_in : Option State → Call → ℕ

@@ -1,6 +1,7 @@
 -- The sizes after each step, the steps that leave the state, and a step behind a first event's work.
 -- Assumes nothing.
-use Rattle.machine.proofs.Words.{◌≡◌, ℕ, ◌<◌, refl, sym, ap, ◌∙◌, Bool, true, false, [], length, leb, if◌then◌else◌, subst, Option, add_lazy, State, Counts, zero_counts, with_links, with_init, with_received, with_grafted, with_cache, size_in_range, durations_in_range, limits_in_range, Run, begin, late_state, peer_at}
+use Rattle.machine.proofs.Words.{◌≡◌, ℕ, ◌<◌, refl, sym, ap, ◌∙◌, Bool, true, false, List, [], length, leb, if◌then◌else◌, subst, Option, add_lazy, State, Counts, zero_counts, with_links, with_init, with_received, with_grafted, with_cache, size_in_range, durations_in_range, limits_in_range, Run, begin, late_state, peer_at}
+use Rattle.std.specs.Borrow.{Bor}
 use Rattle.storage.specs.Rows.Ident.{id_of}
 use Rattle.storage.specs.declared.rows.id.Id.{Id}
 use Rattle.time_cache.specs.TimeCache.{later_cache}
@@ -54,7 +55,7 @@ module _ (t : State) (x : Consistent t) where
       → ((link : ℕ) (ihaves : Ihaves) → r ≡ step.IHave link ihaves → ⊥)
       → ((m : OwnMessage) → r ≡ step.Broadcast m → ⊥)
       → ((id : Id) → r ≡ step.SendGraft id → ⊥)
-      → (r ≡ step.DispatchLazyPush → ⊥)
+      → ((rows : Bor (List ℕ)) → r ≡ step.DispatchLazyPush rows → ⊥)
       → (r ≡ step.EvictCache → ⊥)
       → (r ≡ step.AnnounceDropped → ⊥)
       → sizes_of t ≡ sizes_of (after_step call r t)
@@ -68,7 +69,7 @@ module _ (t : State) (x : Consistent t) where
   others-sized call (step.IHave link ihaves) a b c d e f g h = absurd (c link ihaves refl)
   others-sized call (step.Broadcast m) a b c d e f g h = absurd (d m refl)
   others-sized call (step.SendGraft id) a b c d e f g h = absurd (e id refl)
-  others-sized call step.DispatchLazyPush a b c d e f g h = absurd (f refl)
+  others-sized call (step.DispatchLazyPush rows) a b c d e f g h = absurd (f rows refl)
   others-sized call step.EvictCache a b c d e f g h = absurd (g refl)
   others-sized call step.AnnounceDropped a b c d e f g h = absurd (h refl)
 
@@ -81,7 +82,7 @@ pub others-still : (call : Call) (r : Step) (t : State)
     → ((link : ℕ) (ihaves : Ihaves) → r ≡ step.IHave link ihaves → ⊥)
     → ((m : OwnMessage) → r ≡ step.Broadcast m → ⊥)
     → ((id : Id) → r ≡ step.SendGraft id → ⊥)
-    → (r ≡ step.DispatchLazyPush → ⊥)
+    → ((rows : Bor (List ℕ)) → r ≡ step.DispatchLazyPush rows → ⊥)
     → (r ≡ step.EvictCache → ⊥)
     → (r ≡ step.AnnounceDropped → ⊥)
     → t ≡ after_step call r t
@@ -95,7 +96,7 @@ others-still call (step.Graft link w) t a b c d e f g h i j = absurd (d link w r
 others-still call (step.IHave link ihaves) t a b c d e f g h i j = absurd (e link ihaves refl)
 others-still call (step.Broadcast m) t a b c d e f g h i j = absurd (f m refl)
 others-still call (step.SendGraft id) t a b c d e f g h i j = absurd (g id refl)
-others-still call step.DispatchLazyPush t a b c d e f g h i j = absurd (h refl)
+others-still call (step.DispatchLazyPush rows) t a b c d e f g h i j = absurd (h rows refl)
 others-still call step.EvictCache t a b c d e f g h i j = absurd (i refl)
 others-still call step.AnnounceDropped t a b c d e f g h i j = absurd (j refl)
 
@@ -124,7 +125,7 @@ held_same s t (step.Graft link w) e a = subst (λ (n : ℕ). link < n) e a
 held_same s t (step.IHave link ihaves) e a = record { there = subst (λ (n : ℕ). link < n) e a.there; few = a.few }
 held_same s t (step.Broadcast m) e a = a
 held_same s t (step.SendGraft id) e a = a
-held_same s t step.DispatchLazyPush e a = a
+held_same s t (step.DispatchLazyPush rows) e a = a
 held_same s t step.EvictCache e a = a
 held_same s t step.AnnounceDropped e a = a
 

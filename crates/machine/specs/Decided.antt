@@ -44,6 +44,11 @@ abbrev pub stop_limit : Stop → Option Limit
 stop_limit (Refused r) = None
 stop_limit (Past l) = Some l
 
+-- the limit that is past, of what questions 10 to 13 have found
+abbrev pub limit_found : Result Planned Stop → Option Limit
+limit_found (Ok p) = None
+limit_found (Err stop) = stop_limit stop
+
 -- (14), and what the caller finds
 abbrev pub answered : ℕ → Result Planned Stop → Outcome
 answered output (Ok p) = if leb (length p.bytes) output then accepted p.state p.counts p.bytes else refused 14

@@ -8,12 +8,14 @@ use Rattle.refusal.specs.declared.Refusal.TheVariants.{NoMoreHops}
 use Rattle.protocol.specs.Links.{link_up}
 use Rattle.protocol.specs.State.{State, Counts}
 use Rattle.protocol.specs.Neighbours.{forget_peer}
-use Rattle.protocol.specs.Answer.{Outcome, refused, accepted}
+use Rattle.protocol.specs.Answer.{refused}
+use Rattle.storage.specs.Rows.Part.{put}
 use Rattle.block.specs.LinkSteps.{linked}
-use Rattle.block.specs.Panels.{Allowed}
+use Rattle.block.specs.Panels.{Allowed, Goes, state}
+use Rattle.block.specs.declared.panel.Panel.{Panel}
 use Rattle.steps.specs.declared.call.Call.{Call}
 use Rattle.machine.specs.Called.{counts_of}
-use Rattle.machine.specs.Decided.{Planned, unless}
+use Rattle.machine.specs.Decided.{Planned, unless, answered}
 use Rattle.machine.specs.Limit.{state_limit}
 use Rattle.machine.specs.Kinds.Meaning.{step_far, step_counts, SenderIs}
 use Rattle.machine.specs.Steps.{after_event, event_bytes, Keeps, Due}
@@ -23,7 +25,7 @@ use Rattle.machine.specs.declared.event.Task.TheVariants as task
 use Rattle.machine.specs.declared.event.Stop.{Stop}
 use Rattle.machine.specs.declared.event.Stop.TheVariants.{Refused}
 use Rattle.machine.specs.declared.event.Plan.{Plan}
-use Rattle.machine.specs.declared.event.Accepted.{Accepted}
+use Rattle.machine.specs.declared.event.Outcome.{Outcome as Left}
 
 -- (12), (13), or what the step leaves; `counted` are the counts once the message is counted
 unfoldable pub step_plan : Call → Step → State → Counts → Result Planned Stop
@@ -52,19 +54,24 @@ abbrev pub plan_of : Call → State → Result Plan Stop → Result Planned Stop
 plan_of call s (Ok p) = Ok (record { state = after_task call p.task s; counts = counts_of p.stats; bytes = task_bytes call p.task s })
 plan_of call s (Err stop) = Err stop
 
--- what all questions have found
-abbrev pub outcome_of : Call → State → Result Accepted Refusal → Outcome
-outcome_of call s (Ok a) = accepted (after_task call a.task s) (counts_of a.stats) (task_bytes call a.task s)
-outcome_of call s (Err r) = refused (number_of r)
-
 -- a call that may go on: its task can be done
 pub record Possible (call : Call) (s : State) (p : Plan) : Type 0 where
   pub doable : Doable call p.task s
   pub keeps : Keeps s (after_task call p.task s)
 
--- a call that is accepted: its task can be done, and the output has room
-pub record Acceptable (call : Call) (s : State) (output : ℕ) (a : Accepted) : Type 0 where
-  pub doable : Doable call a.task s
-  pub keeps : Keeps s (after_task call a.task s)
-  pub long : a.length ≡ length (task_bytes call a.task s)
-  pub fits : a.length ≤ output
+-- a call that is accepted: question 14 is answered yes too, and the panel and the output are what was planned
+pub record CarriedOut (x : Result Planned Stop) (p q : Panel) (out last : List ℕ) (o : Left) : Type 0 where
+  pub planned : Planned
+  pub found : x ≡ Ok planned
+  pub goes : Goes (λ s. planned.state) p q
+  pub keeps : Keeps (state p) planned.state
+  pub counts : counts_of o.stats ≡ planned.counts
+  pub long : o.length ≡ length planned.bytes
+  pub fits : o.length ≤ length out
+  pub output : last ≡ put 0 planned.bytes out
+
+-- one that is turned down: nothing is changed
+pub record TurnedDown (x : Result Planned Stop) (p q : Panel) (out last : List ℕ) (r : Refusal) : Type 0 where
+  pub number : answered (length out) x ≡ refused (number_of r)
+  pub panel : q ≡ p
+  pub output : last ≡ out

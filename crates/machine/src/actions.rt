@@ -53,7 +53,7 @@ impl<'a> Encode for Actions<'a> {
             Step::IHave { ihaves, .. } => ihave_actions(view, call, out, *ihaves),
             Step::Broadcast(message) => broadcast_actions(view, call, out, message),
             Step::SendGraft(id) => send_graft_actions(view, call, out, *id),
-            Step::DispatchLazyPush => dispatch_actions(view, call, out),
+            Step::DispatchLazyPush(_) => dispatch_actions(view, call, out),
             Step::EvictCache => evict_actions(view, call, out),
             Step::AnnounceDropped => announce_actions(view, call, out),
             Step::Prune { .. } => {}

@@ -1,6 +1,6 @@
 // What an event does once a first event's work is done: the step, with what was decided of it from the block before anything is changed. Sizes, actions and state
 // consume that.
-ghost use Rattle.std.specs.Prelude.{ℕ, ◌≤◌, length};
+ghost use Rattle.std.specs.Prelude.{ℕ, ◌≡◌, ◌≤◌, true, false, [], length};
 ghost use Rattle.postcard.specs.Message as message;
 ghost use Rattle.postcard.specs.Message.{Received, Broadcast, Fired, IHave, message_bytes};
 ghost use Rattle.postcard.specs.Values.{delivery_value, timer_value};
@@ -12,8 +12,10 @@ ghost use Rattle.block.specs.LinkSteps.{peer_at};
 ghost use Rattle.block.specs.Panels.{AtRest};
 ghost use Rattle.block.specs.Views.{shown};
 ghost use Rattle.decide.specs.Settled.{settled};
-ghost use Rattle.machine.specs.Kinds.Meaning.{ListHeld, Means, StepDecided};
+ghost use Rattle.announcements.specs.QueuedRows.{NotedBack};
+ghost use Rattle.machine.specs.Kinds.Meaning.{ListHeld, Means, NotedFor, StepDecided};
 
+use announcements::on_dispatch_timer::may_note;
 use announcements::on_ihave::all_received;
 use block::panel::View;
 use payloads::broadcast::{OwnMessage, decide_own_push};
@@ -24,6 +26,7 @@ use steps::call::Call;
 use steps::lookups::is_received_then;
 use storage::rows::id::Id;
 use wire::encode::message::Gossip;
+use wire::reader::event::Event;
 use wire::reader::ihaves::Ihaves;
 use wire::reader::message::Message;
 use wire::serialized_size;
@@ -45,7 +48,8 @@ pub enum Step<'a> {
     // a broadcast of size at most M
     Broadcast(OwnMessage<'a>),
     SendGraft(Id),
-    DispatchLazyPush,
+    // the rows of the queue that are handed back and noted
+    DispatchLazyPush(&'a [u16]),
     EvictCache,
     AnnounceDropped,
 }
@@ -127,14 +131,26 @@ pub fn broadcast_step<'a>(view: &View, call: &Call, content: &'a [u8]) -> Step<'
     Step::Broadcast(OwnMessage { id, content, push })
 }
 
-// The step of a timer.
+// Whether an event is a dispatch tick that may hand back some of the queue. Then what it notes is found once, before its step is made.
+pub fn is_handed_back(view: &View, call: &Call, event: Event) -> bool
+    requires { AtRest (shown view.now) }
+    ensures tick { result ≡ true → event.entry ≡ Event.Timer Timer.DispatchLazyPush }
+    ensures none { result ≡ false → NotedFor call.now event.entry (settled call.now.instant.0 (shown view.now)) [] }
+{
+    match event {
+        Event::Timer(Timer::DispatchLazyPush) => may_note(view, call),
+        _ => false,
+    }
+}
+
+// The step of a timer. A dispatch tick that comes here notes nothing.
 pub fn timer_step(timer: Timer) -> Step<'static>
     ensures means { (now : ℕ) → (s : State) → CoreOf s → Means now s result (Fired (timer_value timer)) }
-    ensures decided { (call : Call) → (s : State) → StepDecided call result s }
+    ensures decided { (call : Call) → (s : State) → (timer ≡ Timer.DispatchLazyPush → NotedBack call s []) → StepDecided call result s }
 {
     match timer {
         Timer::SendGraft(id) => Step::SendGraft(id),
-        Timer::DispatchLazyPush => Step::DispatchLazyPush,
+        Timer::DispatchLazyPush => Step::DispatchLazyPush(&[]),
         Timer::EvictCache => Step::EvictCache,
         Timer::AnnounceDropped => Step::AnnounceDropped,
     }

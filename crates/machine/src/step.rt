@@ -33,7 +33,7 @@ pub fn step_sizes(view: &View, call: &Call, step: &Step) -> Sizes
         Step::IHave { ihaves, .. } => ihave_sizes(view, call, *ihaves),
         Step::Broadcast(message) => broadcast_sizes(view, call, message),
         Step::SendGraft(id) => send_graft_sizes(view, call, *id),
-        Step::DispatchLazyPush => dispatch_sizes(view, call),
+        Step::DispatchLazyPush(noted) => dispatch_sizes(view, call, noted),
         Step::EvictCache => evict_sizes(view, call),
         Step::AnnounceDropped => announce_sizes(view, call),
         _ => sizes_then(view, call.instant),
@@ -53,7 +53,7 @@ pub fn step_state(panel: &mut Panel, call: &Call, step: &Step)
         Step::IHave { link, ihaves } => on_ihave(panel, *link, *ihaves),
         Step::Broadcast(message) => broadcast(panel, call, message),
         Step::SendGraft(id) => on_send_graft_timer(panel, call, *id),
-        Step::DispatchLazyPush => on_dispatch_timer(panel, call),
+        Step::DispatchLazyPush(noted) => on_dispatch_timer(panel, noted),
         Step::EvictCache => on_evict_cache_timer(panel, call),
         Step::AnnounceDropped => on_announce_dropped_timer(panel),
         _ => {}

@@ -18,7 +18,7 @@ use Rattle.decide.specs.StateAfter.{late_state}
 use Rattle.block.specs.Caches.GraftSteps.{grafts_at, kept_at}
 use Rattle.block.proofs.LinkLaws.{eager-here}
 use Rattle.steps.specs.Rooms.{rooms_in}
-use Rattle.steps.specs.Settled.Then.{no_grafts}
+use Rattle.steps.specs.Settled.Then.{no_grafted}
 use Rattle.steps.proofs.SettledLaws.ThenLaws.{settled-still}
 use Rattle.steps.proofs.RoomsLaws.{kth-link, kth-stranger}
 use Rattle.payloads.specs.OnLateGraftReply.{copy_kind, late_value, late_bytes, kept_state, after_late}
@@ -123,7 +123,7 @@ module _ (now sender : ℕ) (i : Id) (d : CodeDelivery) (s : State) where
   unfolding late_kind
   kind-none e = sym (ap (late_kind sender (delivery_value d) (settled now s).links) e)
 
-  module _ (at : ℕ) (held : HeldAt no_grafts s.grafted.entries (id_of i) (get (id_of i) (settled now s).grafted) at) where
+  module _ (at : ℕ) (held : HeldAt no_grafted s.grafted.entries (id_of i) (get (id_of i) (settled now s).grafted) at) where
     pub kind-held : late_from sender (delivery_value d) s.links (grafts_at s at) (grafts_at s at).first ≡ copy_kind sender i d (settled now s)
     unfolding late_kind
     kind-held = sym (λ k. late_kind sender (delivery_value d) (same_links now s k) (held.value k))
@@ -132,7 +132,7 @@ module _ (now sender : ℕ) (i : Id) (d : CodeDelivery) (s : State) where
     unfolding grafts_whole neighbours
     near-peers rest =
         and_right (ascending (keys (grafts_at s at).peers)) (all (λ p. is_neighbour p s.links) (keys (grafts_at s at).peers))
-        (all-at (grafts_whole s.links) no_grafts s.grafted.entries rest.consistent.core.grafting at held.below)
+        (all-at (grafts_whole s.links) no_grafted s.grafted.entries rest.consistent.core.grafting at held.below)
 
     pub kind-stranger : AtRest s → is_neighbour sender s.links ≡ false → duplicate ≡ copy_kind sender i d (settled now s)
     kind-stranger rest n =
@@ -196,7 +196,7 @@ module _ (now : ℕ) (c : LateCopy) (s : State) (done : s.init ≡ true) where
   unfolding with_kept
   kept-none e = sym (by-found None e)
 
-  pub kept-some : (i : ℕ) → HeldAt no_grafts s.grafted.entries (id_of c.id) (get (id_of c.id) (settled now s).grafted) i → kept_at i c.sender s ≡ kept_state c s
+  pub kept-some : (i : ℕ) → HeldAt no_grafted s.grafted.entries (id_of c.id) (get (id_of c.id) (settled now s).grafted) i → kept_at i c.sender s ≡ kept_state c s
   unfolding with_kept
   kept-some i held =
       ap (λ (n : ℕ). with_grafted (replace n (record { first = (grafts_at s i).first; kept = Some c.sender; peers = (grafts_at s i).peers }) s.grafted) s) held.key

@@ -1,6 +1,6 @@
 -- What the tree is optimised by after a new Swarm message: which announcer, for which sender, the links and the actions by it.
 -- Assumes nothing.
-use Rattle.payloads.proofs.Words.{◌≡◌, ℕ, suc, ◌+◌, ◌-◌, ◌≤◌, ◌<◌, length, get_or, refl, sym, ap, ◌∙◌, arith, Bool, true, false, not, ◌&&◌, List, [], ◌∷◌, ◌++◌, map, drop, add-one, drop-cons, append-nil, leb, ltb, eqb, if◌then◌else◌, Option, Some, None, lt-ltb, le-ltb, le-leb, eq-eqb, ne_eqb, eqb-true, get_or-map, is_empty, once, ascending, Map, Entry, entry, keys, cases, true≢, and_left, Prune, Graft, Action, Sent, action_bytes, message_bytes, send_head, Mark, Links, eager, is_eager, is_neighbour, eager_in, add_lazy, State, Hop, with_links, with_missing, Room, neighbours, grafted_for, graft_out, kth_taken, settled, only_if, peer_at, link_at, linked, hop, missed_at, hops_at, miss_out, Head, rooms_of, LinkAt, hop_of, HopOf, AtRest, numbered_link, NumberedLink, Call, settled-as, same_links, here, same_keys}
+use Rattle.payloads.proofs.Words.{◌≡◌, ℕ, suc, ◌+◌, ◌-◌, ◌≤◌, ◌<◌, length, get_or, refl, sym, ap, ◌∙◌, arith, Bool, true, false, not, ◌&&◌, List, [], ◌∷◌, ◌++◌, map, drop, add-one, drop-cons, append-nil, leb, ltb, eqb, if◌then◌else◌, Option, Some, None, lt-ltb, le-ltb, le-leb, eq-eqb, ne_eqb, eqb-true, get_or-map, is_empty, once, ascending, Map, Entry, entry, keys, cases, true≢, and_left, Prune, Graft, Action, Sent, action_bytes, message_bytes, send_head, Mark, Links, eager, is_eager, is_neighbour, eager_in, add_lazy, State, Hop, with_links, with_missing, Room, neighbours, grafted_for, graft_out, kth_taken, settled, only_if, peer_at, link_at, linked, hop, missed_at, hops_at, miss_out, Head, rooms_of, LinkAt, hop_value, HopOf, AtRest, numbered_link, NumberedLink, Call, settled-as, same_links, here, same_keys}
 use Rattle.std.proofs.Common.{subst}
 use Rattle.std.proofs.lemmas.List.{drop_all}
 use borrow.Author.Tests.{lt-leb, eqb-false}
@@ -47,21 +47,21 @@ module _ (s : State) (t round : ℕ) (ks hs : List Hop) (k : LinkHop) (same : ks
   some' t round [] h = absurd (omega arith)
   some' t round (x ∷ hs) h = refl
 
-  found : nearest t round ks ≡ only_if (far_closer t round k.round.0) (hop_of s k)
+  found : nearest t round ks ≡ only_if (far_closer t round k.round.0) (hop_value s k)
   found = ap (nearest t round) same ∙ some' t round hs there ∙ ap (λ (x : Hop). only_if (far_closer t round x.round) x) least.same
 
   pub nearest-far : k.round.0 < round → t ≤ round - k.round.0 → NearestAt s (nearest t round ks) k
   unfolding far_closer
-  nearest-far l m = record { below = least.below; same = found ∙ (λ j. only_if (lt-ltb k.round.0 round l j && le-leb t (round - k.round.0) m j) (hop_of s k)) }
+  nearest-far l m = record { below = least.below; same = found ∙ (λ j. only_if (lt-ltb k.round.0 round l j && le-leb t (round - k.round.0) m j) (hop_value s k)) }
 
   pub nearest-not : round ≤ k.round.0 → nearest t round ks ≡ None
   unfolding far_closer
-  nearest-not l = found ∙ ap (λ (b : Bool). only_if (b && leb t (round - k.round.0)) (hop_of s k)) (le-ltb k.round.0 round l)
+  nearest-not l = found ∙ ap (λ (b : Bool). only_if (b && leb t (round - k.round.0)) (hop_value s k)) (le-ltb k.round.0 round l)
 
   pub nearest-few : round - k.round.0 < t → nearest t round ks ≡ None
   unfolding far_closer
   nearest-few l =
-      found ∙ ap (λ (b : Bool). only_if (ltb k.round.0 round && b) (hop_of s k)) (lt-leb t (round - k.round.0) l)
+      found ∙ ap (λ (b : Bool). only_if (ltb k.round.0 round && b) (hop_value s k)) (lt-leb t (round - k.round.0) l)
       ∙ cases (ltb k.round.0 round) (λ e. rw e refl) (λ e. rw e refl)
 
 pub nearest-none : (t round : ℕ) (ks : List Hop) → ks ≡ [] → nearest t round ks ≡ None
@@ -148,7 +148,7 @@ module _ (call : Call) (id p round : ℕ) (s : State) where
 
   pub optimised-bytes : (c : Option Shortcut) → ShortcutOf s p (shortcut (grafted_for id s) id p round s) c → shortcut_bytes call c s ≡ concat_map action_bytes (optimise_on (rooms_of call s) id p round s)
   unfolding best_actions actions_by concat_map
-  optimised-bytes (Some c) n = ap (λ (q : ℕ). concat_map action_bytes (best_actions (rooms_of call s) q (hop_of s (announcer_of c)) s)) n.0.peer ∙ by-found (Some (hop_of s (announcer_of c))) n.1.same
+  optimised-bytes (Some c) n = ap (λ (q : ℕ). concat_map action_bytes (best_actions (rooms_of call s) q (hop_value s (announcer_of c)) s)) n.0.peer ∙ by-found (Some (hop_value s (announcer_of c))) n.1.same
   optimised-bytes None e = by-found None e
 
   -- a first event's eviction changes none of them
@@ -277,7 +277,7 @@ module _ (id p round : ℕ) (s : State) where
 
   state-by : (c : Option Shortcut) → ShortcutOf s p (shortcut (grafted_for id s) id p round s) c → after_shortcut c s ≡ optimised_on id p round s
   unfolding by_best
-  state-by (Some c) n = ap (λ (q : ℕ). linked (optimised_links q (hop_of s (announcer_of c))) s) n.0.peer ∙ ap (λ (o : Option Hop). by_best p o s) (sym n.1.same) ∙ sym by-state
+  state-by (Some c) n = ap (λ (q : ℕ). linked (optimised_links q (hop_value s (announcer_of c))) s) n.0.peer ∙ ap (λ (o : Option Hop). by_best p o s) (sym n.1.same) ∙ sym by-state
   state-by None e = ap (λ (o : Option Hop). by_best p o s) (sym e) ∙ sym by-state
 
   -- what is dropped does not depend on the links
@@ -296,7 +296,7 @@ module _ (id p round : ℕ) (s : State) where
 
 -- what does not depend on the links is as it was
 pub shortcut-only : {A : Type 0} (f : State → A) (s : State) → ((l : Links) → f (with_links l s) ≡ f s) → (c : Option Shortcut) → f (after_shortcut c s) ≡ f s
-shortcut-only f s e (Some c) = e (optimised_links (peer_at s c.sender) (hop_of s (announcer_of c)) s.links)
+shortcut-only f s e (Some c) = e (optimised_links (peer_at s c.sender) (hop_value s (announcer_of c)) s.links)
 shortcut-only f s e None = refl
 
 pub forgotten : (id : ℕ) (s : State) → miss_out id (timer_out id s) ≡ forgotten_state id s

@@ -1,7 +1,7 @@
 -- The words of the crates below that the proofs of this crate use most, passed on.
 pub use Rattle.block.proofs.PanelLaws.{here, link-key, same-state, same_keys}
 pub use Rattle.block.proofs.ViewLaws.{links-few}
-pub use Rattle.block.specs.Found.{HopOf, LinkAt, LinkIf, hop_of}
+pub use Rattle.block.specs.Found.{HopOf, LinkAt, LinkIf, hop_value}
 pub use Rattle.block.specs.LinkSteps.{LinksAscend, link_at, linked, peer_at}
 pub use Rattle.block.specs.MissingSteps.{hop, hops_at, miss_out, missed_at}
 pub use Rattle.block.specs.Panels.{Allowed, AtRest, state}

@@ -15,7 +15,7 @@ use Rattle.block.specs.LinkSteps.{peer_at, linked}
 use Rattle.block.specs.MissingSteps.{hop}
 use Rattle.block.specs.declared.hops.Hop.{Hop as LinkHop}
 use Rattle.steps.specs.Calls.{rooms_of}
-use Rattle.block.specs.Found.{LinkAt, hop_of}
+use Rattle.block.specs.Found.{LinkAt, hop_value}
 use Rattle.steps.specs.declared.call.Call.{Call}
 use Rattle.payloads.specs.declared.optimize_tree.Shortcut.{Shortcut}
 
@@ -32,7 +32,7 @@ nearest threshold round (h ∷ hs) = only_if (far_closer threshold round (least_
 -- the announcer that was found, by the number of its link
 pub record NearestAt (s : State) (found : Option Hop) (k : LinkHop) : Type 0 where
   pub below : k.link < length s.links
-  pub same : found ≡ Some (hop_of s k)
+  pub same : found ≡ Some (hop_value s k)
 
 -- the same, if there is one
 abbrev pub NearestOf : State → Option Hop → Option LinkHop → Type 0
@@ -69,12 +69,12 @@ best_actions rooms sender b s =
 
 -- the actions by it
 abbrev pub shortcut_bytes : Call → Option Shortcut → State → List ℕ
-shortcut_bytes call (Some c) s = concat_map action_bytes (best_actions (rooms_of call s) (peer_at s c.sender) (hop_of s (announcer_of c)) s)
+shortcut_bytes call (Some c) s = concat_map action_bytes (best_actions (rooms_of call s) (peer_at s c.sender) (hop_value s (announcer_of c)) s)
 shortcut_bytes call None s = []
 
 -- the state by it
 abbrev pub after_shortcut : Option Shortcut → State → State
-after_shortcut (Some c) s = linked (optimised_links (peer_at s c.sender) (hop_of s (announcer_of c))) s
+after_shortcut (Some c) s = linked (optimised_links (peer_at s c.sender) (hop_value s (announcer_of c))) s
 after_shortcut None s = s
 
 -- and with the graft-timer mark and the announcers dropped

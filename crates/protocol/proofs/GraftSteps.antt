@@ -15,7 +15,7 @@ use Rattle.protocol.specs.NoNeighbourPassedOver.{lists, is_graft_for, taken_or_h
 use Rattle.storage.proofs.ListsLaws.MapLaws.{cases, true≢, and_left, and_right, and_intro, all_head, all_tail, all_cons, ascending-insert, ascending-remove, lookup-insert-same, lookup-insert-other, lookup-remove-same, lookup-remove-other}
 use Rattle.storage.proofs.ListsLaws.Lists.{or_cases, any_append, any_left, any-right, any-one}
 use Rattle.storage.proofs.ListsLaws.KeyLaws.{eqb-sym}
-use Rattle.protocol.proofs.Invariant.{hop_of}
+use Rattle.protocol.proofs.Invariant.{hop_is_of}
 use Rattle.protocol.proofs.Walk.{Sending, Steps, walk-dispatch_to}
 use Rattle.protocol.proofs.RecordOnly.{RecordOnly, only-note_dropped, only-schedule}
 
@@ -25,7 +25,7 @@ Sorted s = ascending (keys s.missing) ≡ true
 
 pub record Shrinks (r r' : Run) : Type 0 where
   pub sorted : Sorted r.state → Sorted r'.state
-  pub announcing : (p id : ℕ) → any (hop_of p) (announcers id r'.state) ≡ true → any (hop_of p) (announcers id r.state) ≡ true
+  pub announcing : (p id : ℕ) → any (hop_is_of p) (announcers id r'.state) ≡ true → any (hop_is_of p) (announcers id r.state) ≡ true
   pub grafting : (p id : ℕ) → has p (grafted_for id r'.state) ≡ true → has p (grafted_for id r.state) ≡ true
 
 pub shrinks-refl : (r : Run) → Shrinks r r
@@ -129,7 +129,7 @@ shrinks-keep id q r = record {
 
 -- the others
 
-announcing-remove : (p j id : ℕ) (m : Map (List Hop)) → any (hop_of p) (hops_of (lookup j (remove id m))) ≡ true → any (hop_of p) (hops_of (lookup j m)) ≡ true
+announcing-remove : (p j id : ℕ) (m : Map (List Hop)) → any (hop_is_of p) (hops_of (lookup j (remove id m))) ≡ true → any (hop_is_of p) (hops_of (lookup j m)) ≡ true
 unfolding hops_of any
 announcing-remove p j id m h =
     cases (eqb j id)
@@ -222,23 +222,23 @@ any-add_announcer f h hs e =
     last (inl x) = inl x
     last (inr x) = inr (sym (any-one f h) ∙ x)
 
-announcing-announce : (p j id : ℕ) (h : Hop) (r : Run) → any (hop_of p) (announcers j (announce id h r).state) ≡ true →
-    (any (hop_of p) (announcers j r.state) ≡ true) ⊎ ((eqb id j ≡ true) × (eqb h.peer p ≡ true))
+announcing-announce : (p j id : ℕ) (h : Hop) (r : Run) → any (hop_is_of p) (announcers j (announce id h r).state) ≡ true →
+    (any (hop_is_of p) (announcers j r.state) ≡ true) ⊎ ((eqb id j ≡ true) × (eqb h.peer p ≡ true))
 unfolding announce announcers hops_of
 announcing-announce p j id h r e =
     cases (eqb j id)
-    (λ q. here q (any-add_announcer (hop_of p) h (announcers id r.state) (rw (eqb-true j id q, lookup-insert-same) at e)))
+    (λ q. here q (any-add_announcer (hop_is_of p) h (announcers id r.state) (rw (eqb-true j id q, lookup-insert-same) at e)))
     (λ q. inl (rw (lookup-insert-other j id _ r.state.missing q) at e))
   where
-    here : eqb j id ≡ true → (any (hop_of p) (announcers id r.state) ≡ true) ⊎ (eqb h.peer p ≡ true) →
-        (any (hop_of p) (announcers j r.state) ≡ true) ⊎ ((eqb id j ≡ true) × (eqb h.peer p ≡ true))
+    here : eqb j id ≡ true → (any (hop_is_of p) (announcers id r.state) ≡ true) ⊎ (eqb h.peer p ≡ true) →
+        (any (hop_is_of p) (announcers j r.state) ≡ true) ⊎ ((eqb id j ≡ true) × (eqb h.peer p ≡ true))
     here q (inl x) = inl (rw (eqb-true j id q) x)
     here q (inr x) = inr (eqb-sym id j ∙ q, x)
 
 -- what an IHave adds
 pub record Hears (sender : ℕ) (hs : List Ihave) (r r' : Run) : Type 0 where
   pub sorted : Sorted r.state → Sorted r'.state
-  pub announcing : (p id : ℕ) → any (hop_of p) (announcers id r'.state) ≡ true → (any (hop_of p) (announcers id r.state) ≡ true) ⊎ ((eqb sender p ≡ true) × (lists id hs ≡ true))
+  pub announcing : (p id : ℕ) → any (hop_is_of p) (announcers id r'.state) ≡ true → (any (hop_is_of p) (announcers id r.state) ≡ true) ⊎ ((eqb sender p ≡ true) × (lists id hs ≡ true))
   pub grafting : (p id : ℕ) → has p (grafted_for id r'.state) ≡ true → has p (grafted_for id r.state) ≡ true
 
 hears-one : (sender : ℕ) (h : Ihave) (r : Run) → Hears sender (h ∷ []) r (on_announced sender h r)
@@ -258,8 +258,8 @@ hears-one sender h r =
     graft : (p id : ℕ) → has p (grafted_for id (announce h.id hop r).state) ≡ true → has p (grafted_for id r.state) ≡ true
     graft p id x = x
 
-    on : (p id : ℕ) → (any (hop_of p) (announcers id r.state) ≡ true) ⊎ ((eqb h.id id ≡ true) × (eqb sender p ≡ true)) →
-        (any (hop_of p) (announcers id r.state) ≡ true) ⊎ ((eqb sender p ≡ true) × (lists id (h ∷ []) ≡ true))
+    on : (p id : ℕ) → (any (hop_is_of p) (announcers id r.state) ≡ true) ⊎ ((eqb h.id id ≡ true) × (eqb sender p ≡ true)) →
+        (any (hop_is_of p) (announcers id r.state) ≡ true) ⊎ ((eqb sender p ≡ true) × (lists id (h ∷ []) ≡ true))
     on p id (inl x) = inl x
     on p id (inr (x, y)) = inr (y, any-one (λ g. eqb g.id id) h ∙ x)
 
@@ -276,12 +276,12 @@ hears sender (h ∷ hs) r =
     }
   where
     on : (p id : ℕ) → Hears sender (h ∷ []) r (on_announced sender h r) →
-        (any (hop_of p) (announcers id (on_announced sender h r).state) ≡ true) ⊎ ((eqb sender p ≡ true) × (lists id hs ≡ true)) →
-        (any (hop_of p) (announcers id r.state) ≡ true) ⊎ ((eqb sender p ≡ true) × (lists id (h ∷ hs) ≡ true))
+        (any (hop_is_of p) (announcers id (on_announced sender h r).state) ≡ true) ⊎ ((eqb sender p ≡ true) × (lists id hs ≡ true)) →
+        (any (hop_is_of p) (announcers id r.state) ≡ true) ⊎ ((eqb sender p ≡ true) × (lists id (h ∷ hs) ≡ true))
     on p id a (inl x) = first (a.announcing p id x)
       where
-        first : (any (hop_of p) (announcers id r.state) ≡ true) ⊎ ((eqb sender p ≡ true) × (lists id (h ∷ []) ≡ true)) →
-            (any (hop_of p) (announcers id r.state) ≡ true) ⊎ ((eqb sender p ≡ true) × (lists id (h ∷ hs) ≡ true))
+        first : (any (hop_is_of p) (announcers id r.state) ≡ true) ⊎ ((eqb sender p ≡ true) × (lists id (h ∷ []) ≡ true)) →
+            (any (hop_is_of p) (announcers id r.state) ≡ true) ⊎ ((eqb sender p ≡ true) × (lists id (h ∷ hs) ≡ true))
         first (inl y) = inl y
         first (inr (y, z)) = inr (y, any_left (λ g. eqb g.id id) (h ∷ []) hs z)
     on p id a (inr (x, y)) = inr (x, any-right (λ g. eqb g.id id) (h ∷ []) hs y)
@@ -316,8 +316,8 @@ grafting-graft p j id t h (Some g) c e x =
     here q (inl y) = inl (rw (eqb-true j id q, e) y)
     here q (inr y) = inr (eqb-sym id j ∙ q, y)
 
-announcing-leave : (p j id : ℕ) (hs : List Hop) (m : Map (List Hop)) → any (hop_of p) (hops_of (lookup j (if is_empty hs then remove id m else insert id hs m))) ≡ true →
-    (any (hop_of p) (hops_of (lookup j m)) ≡ true) ⊎ ((eqb j id ≡ true) × (any (hop_of p) hs ≡ true))
+announcing-leave : (p j id : ℕ) (hs : List Hop) (m : Map (List Hop)) → any (hop_is_of p) (hops_of (lookup j (if is_empty hs then remove id m else insert id hs m))) ≡ true →
+    (any (hop_is_of p) (hops_of (lookup j m)) ≡ true) ⊎ ((eqb j id ≡ true) × (any (hop_is_of p) hs ≡ true))
 unfolding hops_of
 announcing-leave p j id [] m x = inl (announcing-remove p j id m x)
 announcing-leave p j id (h ∷ hs) m x =
@@ -332,9 +332,9 @@ sorted-leave id (h ∷ hs) m o = ascending-insert id (h ∷ hs) m o
 -- what SendGraft adds
 pub record Asks (r r' : Run) : Type 0 where
   pub sorted : Sorted r.state → Sorted r'.state
-  pub announcing : (p id : ℕ) → any (hop_of p) (announcers id r'.state) ≡ true → any (hop_of p) (announcers id r.state) ≡ true
+  pub announcing : (p id : ℕ) → any (hop_is_of p) (announcers id r'.state) ≡ true → any (hop_is_of p) (announcers id r.state) ≡ true
   pub grafting : (p id : ℕ) → has p (grafted_for id r'.state) ≡ true →
-      (has p (grafted_for id r.state) ≡ true) ⊎ ((any (hop_of p) (announcers id r.state) ≡ true) × (any (sends p (is_graft_for id) taken_or_handed_back) r'.actions ≡ true))
+      (has p (grafted_for id r.state) ≡ true) ⊎ ((any (hop_is_of p) (announcers id r.state) ≡ true) × (any (sends p (is_graft_for id) taken_or_handed_back) r'.actions ≡ true))
 
 asks-first : (now id : ℕ) (hs : List Hop) (r : Run) → announcers id r.state ≡ hs → Asks r (ask_first now id hs r)
 unfolding ask_first leave_announcers update_links note_graft send act announcers grafted_for sends is_graft_for
@@ -345,15 +345,15 @@ asks-first now id (h ∷ hs) r e = record {
   grafting = λ p j x. gra p j (grafting-graft p j id _ h (get id r.state.grafted) r.state.grafted refl x);
 }
   where
-    ann : (p j : ℕ) → (any (hop_of p) (hops_of (lookup j r.state.missing)) ≡ true) ⊎ ((eqb j id ≡ true) × (any (hop_of p) hs ≡ true)) → any (hop_of p) (announcers j r.state) ≡ true
+    ann : (p j : ℕ) → (any (hop_is_of p) (hops_of (lookup j r.state.missing)) ≡ true) ⊎ ((eqb j id ≡ true) × (any (hop_is_of p) hs ≡ true)) → any (hop_is_of p) (announcers j r.state) ≡ true
     ann p j (inl x) = x
-    ann p j (inr (q, x)) = rw (eqb-true j id q, e) (any-right (hop_of p) (h ∷ []) hs x)
+    ann p j (inr (q, x)) = rw (eqb-true j id q, e) (any-right (hop_is_of p) (h ∷ []) hs x)
 
     gra : (p j : ℕ) → (has p (peers_of (get j r.state.grafted)) ≡ true) ⊎ ((eqb id j ≡ true) × (eqb h.peer p ≡ true)) →
-        (has p (grafted_for j r.state) ≡ true) ⊎ ((any (hop_of p) (announcers j r.state) ≡ true) × (any (sends p (is_graft_for j) taken_or_handed_back) (ask_first now id (h ∷ hs) r).actions ≡ true))
+        (has p (grafted_for j r.state) ≡ true) ⊎ ((any (hop_is_of p) (announcers j r.state) ≡ true) × (any (sends p (is_graft_for j) taken_or_handed_back) (ask_first now id (h ∷ hs) r).actions ≡ true))
     gra p j (inl x) = inl x
     gra p j (inr (q, x)) = inr (
-      rw (← eqb-true id j q, e) (any_left (hop_of p) (h ∷ []) hs (any-one (hop_of p) h ∙ x)),
+      rw (← eqb-true id j q, e) (any_left (hop_is_of p) (h ∷ []) hs (any-one (hop_is_of p) h ∙ x)),
       any_left (sends p (is_graft_for j) taken_or_handed_back) _ (Scheduled _ (SendGraft id) ∷ [])
           (any-right (sends p (is_graft_for j) taken_or_handed_back) r.actions (Sent h.peer _ (Graft (Some id) h.round) ∷ []) (any-one (sends p (is_graft_for j) taken_or_handed_back) _ ∙ rw (x, q))),
     )
@@ -375,7 +375,7 @@ absent-announcer q k (e ∷ m) a =
     let ih : lookup k (forget_announcer q m) ≡ None = absent-announcer q k m (all_tail (ltb k) e.key (keys m) a) in
     cases (is_empty (without_announcer q e.value)) (λ p. rw p ih) (λ p. rw p (rw n ih))
 
-any-without : (p q : ℕ) (hs : List Hop) → any (hop_of p) (without_announcer q hs) ≡ true → (eqb p q ≡ false) × (any (hop_of p) hs ≡ true)
+any-without : (p q : ℕ) (hs : List Hop) → any (hop_is_of p) (without_announcer q hs) ≡ true → (eqb p q ≡ false) × (any (hop_is_of p) hs ≡ true)
 unfolding without_announcer any filter
 any-without p q [] h = true≢ h
 any-without p q (x ∷ hs) h =
@@ -385,11 +385,11 @@ any-without p q (x ∷ hs) h =
     (λ y. rw y ((rw (← eqb-true x.peer p y) z, refl)))
     (λ y. more (any-without p q hs (rw y at (rw z at h)))))
   where
-    more : (eqb p q ≡ false) × (any (hop_of p) hs ≡ true) → (eqb p q ≡ false) × (any (hop_of p) (x ∷ hs) ≡ true)
-    more (n, k) = (n, any-right (hop_of p) (x ∷ []) hs k)
+    more : (eqb p q ≡ false) × (any (hop_is_of p) hs ≡ true) → (eqb p q ≡ false) × (any (hop_is_of p) (x ∷ hs) ≡ true)
+    more (n, k) = (n, any-right (hop_is_of p) (x ∷ []) hs k)
 
-announcing-down : (p q j : ℕ) (m : Map (List Hop)) → ascending (keys m) ≡ true → any (hop_of p) (hops_of (lookup j (forget_announcer q m))) ≡ true →
-    (eqb p q ≡ false) × (any (hop_of p) (hops_of (lookup j m)) ≡ true)
+announcing-down : (p q j : ℕ) (m : Map (List Hop)) → ascending (keys m) ≡ true → any (hop_is_of p) (hops_of (lookup j (forget_announcer q m))) ≡ true →
+    (eqb p q ≡ false) × (any (hop_is_of p) (hops_of (lookup j m)) ≡ true)
 unfolding lookup forget_announcer hops_of ascending any
 announcing-down p q j [] o h = true≢ h
 announcing-down p q j (e ∷ m) o h =
@@ -439,7 +439,7 @@ sorted-forget q (e ∷ m) o =
 -- what "down" leaves
 pub record ForgetsPeer (q : ℕ) (s s' : State) : Type 0 where
   pub sorted : Sorted s'
-  pub announcing : (p id : ℕ) → any (hop_of p) (announcers id s') ≡ true → (eqb p q ≡ false) × (any (hop_of p) (announcers id s) ≡ true)
+  pub announcing : (p id : ℕ) → any (hop_is_of p) (announcers id s') ≡ true → (eqb p q ≡ false) × (any (hop_is_of p) (announcers id s) ≡ true)
   pub grafting : (p id : ℕ) → has p (grafted_for id s') ≡ true → (eqb p q ≡ false) × (has p (grafted_for id s) ≡ true)
 
 pub forgets-peer : (q : ℕ) (s : State) → ascending (keys s.missing) ≡ true → ForgetsPeer q s (forget_peer q s)

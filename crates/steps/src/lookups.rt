@@ -5,7 +5,7 @@ ghost use Rattle.time_cache.specs.TimeCache.{holds, get};
 ghost use Rattle.decide.specs.Settled.{settled};
 ghost use Rattle.block.specs.Panels.{AtRest};
 ghost use Rattle.block.specs.Views.{shown};
-ghost use Rattle.steps.specs.Settled.Then.{no_cached, no_grafts};
+ghost use Rattle.steps.specs.Settled.Then.{no_cached, no_grafted};
 ghost use Rattle.steps.specs.Shared.{EntryIs};
 
 use crate::settled::{contains_then, find_then};
@@ -48,7 +48,7 @@ pub fn cached_entry_then(view: &View, instant: Millis, id: Id) -> Option<usize>
 #[tactic(auto, using(crate::proofs::SettledLaws::ThenLaws::grafted_entry))]
 pub fn grafted_entry_then(view: &View, instant: Millis, id: Id) -> Option<usize>
     requires { AtRest (shown view.now) }
-    ensures { EntryIs no_grafts (shown view.now).grafted.entries (id_of id) (get (id_of id) (settled instant.0 (shown view.now)).grafted) result }
+    ensures { EntryIs no_grafted (shown view.now).grafted.entries (id_of id) (get (id_of id) (settled instant.0 (shown view.now)).grafted) result }
 {
     find_then::<GraftedMessages>(view, instant, id)
 }

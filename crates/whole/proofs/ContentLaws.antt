@@ -4,21 +4,25 @@ use Rattle.whole.proofs.Words.{◌≡◌, refl, sym, ap, ◌∙◌, subst, Bool,
 use Rattle.storage.specs.Lists.Base.{sum}
 use Rattle.storage.specs.Rows.Part.{part}
 use Rattle.time_cache.specs.Tables.{expiry_rows}
-use Rattle.time_cache.proofs.ExpiryLaws.{length-expiry_rows}
+use Rattle.time_cache.proofs.ExpiryLaws.{row-at, length-expiry_rows}
 use Rattle.protocol.specs.Whole.{content_held}
 use Rattle.block.specs.View.{four_at, cached_in, state_of}
 use Rattle.block.specs.Sound.{adjoin}
-use Rattle.block.specs.Contents.Starts.{len_of}
-use Rattle.block.proofs.ContentsLaws.RowsAdjoin.{len-bytes, of-adjoin}
+use Rattle.block.specs.Contents.Starts.{start_of, len_of, ExtentIs}
+use Rattle.block.proofs.ContentsLaws.RowsAdjoin.{start-bytes, len-bytes, of-adjoin}
 use Rattle.block.proofs.ContentsLaws.Contents.{held-lens}
 use Rattle.block.proofs.ContentsLaws.Sums.{sum-places}
 use Rattle.whole.specs.Held.{all_below, places_name}
 use Rattle.whole.specs.Parts.{length_at, table_of}
+use Rattle.block.specs.declared.caches.contents.Extent.{Extent}
 
--- the number in four bytes of row i, as it lies in the table
-pub four-at : (s n i o : ℕ) (b : List ℕ) → o + 4 ≤ s → i < n → le_nat (part (i * s + o) 4 b) ≡ four_at o (get_or (rows s n b) i [])
-unfolding four_at
-four-at s n i o b w l = ap le_nat (sym (part-part o 4 (i * s) s b w) ∙ ap (part o 4) (sym (get_d_rows s n i [] b l)))
+-- start and length of row i, as they are read from the block
+pub extent-row : (m i : ℕ) (x : List ℕ) (e : Extent) → i < m → ExtentIs (row_at (expiry_rows 48 m x) i) e → (e.start ≡ four_at 40 (get_or (rows 48 m x) i [])) × (e.len ≡ four_at 44 (get_or (rows 48 m x) i []))
+extent-row m i x e l is =
+    let row : get_or (rows 48 m x) i [] ≡ part (i * 48) 48 x = get_d_rows 48 m i [] x l in (
+      is.start ∙ ap start_of (row-at 48 m i x l) ∙ start-bytes (part (i * 48) 48 x) ∙ sym (ap (four_at 40) row),
+      is.len ∙ ap len_of (row-at 48 m i x l) ∙ len-bytes (part (i * 48) 48 x) ∙ sym (ap (four_at 44) row),
+    )
 
 module _ (rs : List (List ℕ)) (at i e start : ℕ) (l : i < length rs) (s : start ≡ four_at 40 (get_or rs i [])) where
   -- the rows from i on begin with row i

@@ -1,6 +1,6 @@
 -- Question 5 is the tests of the header's numbers and of the tables: each follows from the others.
 -- Assumes nothing.
-use Rattle.whole.proofs.Words.{◌≡◌, refl, sym, ap, ◌∙◌, subst, Bool, true, false, ◌&&◌, ◌||◌, List, [], ◌∷◌, map, ℕ, zero, suc, ◌*◌, ◌≤◌, zero-le, arith, leb-true, le-leb, eqb-true, eq-eqb, ne_eqb, leb, eqb, lit<, length, take, drop, take-take, if◌then◌else◌, Some, None, is_empty, all, ascending, cases, true≢, and_left, and_right, and_intro, rows, length-rows, refs, places, expiry_row_of, expiry_of, entry_of, cache_in, State, Limits, Note, size_in_range, durations_in_range, limits_in_range, block_need, content_held, neighbours, announcers_whole, grafts_whole, noted_once, record_within, tables, settings_of, limits_of, peer_of, missed_of, id_at, nothing_of, cached_of, grafts_of, Fit, WithinLimits, Head, count-links, count-peers, length-view, length-table, adjoin}
+use Rattle.whole.proofs.Words.{◌≡◌, refl, sym, ap, ◌∙◌, subst, Bool, true, false, ◌&&◌, ◌||◌, List, [], ◌∷◌, map, ℕ, zero, suc, ◌*◌, ◌≤◌, zero-le, arith, leb-true, le-leb, eqb-true, eq-eqb, ne_eqb, leb, eqb, lit<, length, take, drop, take-take, if◌then◌else◌, Some, None, is_empty, all, ascending, cases, true≢, and_left, and_right, and_intro, rows, length-rows, refs, places, expiry_row_of, expiry_of, entry_of, cache_in, State, Limits, Note, size_in_range, durations_in_range, limits_in_range, block_need, content_held, neighbours, announcers_whole, grafts_whole, noted_once, record_within, tables, settings_of, limits_of, peer_of, missed_of, id_at, nothing_of, cached_of, grafts_of, Fit, Ceilings, WithinLimits, Head, count-links, count-peers, length-view, length-table, adjoin}
 use lib.ListN.{length-map}
 use Rattle.storage.specs.Lists.Map.{keys}
 use Rattle.storage.specs.Rows.Part.{part}
@@ -12,13 +12,15 @@ use Rattle.time_cache.proofs.TableLaws.{on-time}
 use Rattle.protocol.specs.Whole.{cache_fits, fits, in_range, keys_once, flags_stand, whole}
 use Rattle.block.specs.View.{state_of, note_of, notes_in, missing_in, timers_in, received_in, cached_in, grafted_in}
 use Rattle.storage.specs.Refs.Numbers.{numbered}
-use Rattle.block.specs.Header.{word_at, half_word_at, head_in}
+use Rattle.block.specs.Header.{word_at, half_word_at, limits_in, head_in}
 use Rattle.block.specs.declared.head.Live.{Live}
 use Rattle.storage.proofs.RefsLaws.Numbered.{length-numbered}
 use Rattle.whole.specs.Held.{has_header, has_tables, counts_within, all_below, places_name, numbers_name, all_lists, laid_out, holds_with, held, whole_held, whole_block}
-use Rattle.whole.specs.Parts.{table_of, cache_whole, links_whole, received_whole, cached_whole, grafted_peers, grafted_whole, announcers, missing_whole, timers_whole, queue_whole, record_whole, tables_whole, flags_with, head_whole}
+use Rattle.whole.specs.Parts.{table_of, cache_whole, links_whole, received_whole, cached_whole, grafted_peers, grafted_whole, announcers, missing_whole, timers_whole, queue_whole, record_whole, tables_whole, flags_with, has_limits, head_whole}
 use Rattle.whole.proofs.Tests.{conj, Each, each, from_each, picks, both_ways}
-use Rattle.whole.proofs.HeldLaws.{fit_of, wholly_of}
+use Rattle.whole.specs.Opens.{OpensBlock}
+use Rattle.whole.specs.declared.opened.Opened.{Opened}
+use Rattle.whole.proofs.HeldLaws.{fit_of, ceilings_there, wholly_of}
 use Rattle.whole.proofs.NumberLaws.{peers-neighbours}
 use Rattle.whole.proofs.HopLaws.{pairs-map, take-few}
 
@@ -459,9 +461,6 @@ told xs =
     ∙ both_ways (conj (first_test xs) (later_tests h xs)) (whole_block xs) (λ p. tests-whole xs (each (first_test xs) (later_tests h xs) p))
     (λ w. from_each (first_test xs) (later_tests h xs) (whole-tests xs w))
 
-pub whole_told : (xs : List ℕ) → has_header xs ≡ true → head_whole (head_in xs) xs ≡ whole_block xs
-whole_told xs e = sym (ap (λ (t : Bool). t && head_whole (head_in xs) xs) e) ∙ told xs
-
 pub no_header : (xs : List ℕ) → has_header xs ≡ false → whole_block xs ≡ false
 no_header xs e = sym (told xs) ∙ ap (λ (t : Bool). t && head_whole (head_in xs) xs) e
 
@@ -469,3 +468,35 @@ no_header xs e = sym (told xs) ∙ ap (λ (t : Bool). t && head_whole (head_in x
 pub header_long : (xs : List ℕ) → has_header xs ≡ true → 2048 ≤ length xs
 unfolding has_header
 header_long xs e = leb-true 2048 (length xs) (and_left (leb 2048 (length xs)) (leb (word_at 24 xs) 65535) e)
+
+-- a block without its limits is not whole
+pub no_limits : (xs : List ℕ) → has_limits xs ≡ false → whole_block xs ≡ false
+unfolding has_limits head_whole
+no_limits xs e =
+    cases (has_header xs)
+    (λ h. sym (told xs) ∙ rw (h, ap (λ (t : Bool). t && has_tables (limits_of (limits_in xs)) xs) (sym h) ∙ e) refl)
+    (λ h. no_header xs h)
+
+-- one that has its limits has a header, and they are within the ceilings
+limits-header : (xs : List ℕ) → has_limits xs ≡ true → has_header xs ≡ true
+unfolding has_limits
+limits-header xs e = and_left (has_header xs) (has_tables (limits_of (limits_in xs)) xs) e
+
+pub limits_tables : (xs : List ℕ) → has_limits xs ≡ true → has_tables (limits_of (limits_in xs)) xs ≡ true
+unfolding has_limits
+limits_tables xs e = and_right (has_header xs) (has_tables (limits_of (limits_in xs)) xs) e
+
+pub limits_long : (xs : List ℕ) → has_limits xs ≡ true → 2048 ≤ length xs
+limits_long xs e = header_long xs (limits-header xs e)
+
+pub limits_ceilings : (h : Head) (xs : List ℕ) → h ≡ head_in xs → has_limits xs ≡ true → Ceilings (limits_of h.limits)
+limits_ceilings h xs q e = subst (λ (g : Head). Ceilings (limits_of g.limits)) (sym q) (ceilings_there (limits_of (limits_in xs)) xs (limits_tables xs e))
+
+-- of a block that was opened
+pub opened_tables : (o : Opened) (xs : List ℕ) → OpensBlock o xs → has_tables (limits_of o.head.limits) xs ≡ true
+opened_tables o xs p = subst (λ (g : Head). has_tables (limits_of g.limits) xs ≡ true) (sym p.head) (limits_tables xs p.limits)
+
+pub opened_told : (o : Opened) (xs : List ℕ) → OpensBlock o xs → head_whole o.head xs ≡ whole_block xs
+opened_told o xs p =
+    ap (λ (g : Head). head_whole g xs) p.head
+    ∙ sym (ap (λ (t : Bool). t && head_whole (head_in xs) xs) (limits-header xs p.limits)) ∙ told xs

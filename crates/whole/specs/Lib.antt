@@ -1,5 +1,6 @@
 pub mod Held
 pub mod Creation
 pub mod Parts
+pub mod Opens
 pub mod States
 pub mod CreationWhole

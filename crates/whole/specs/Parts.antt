@@ -9,10 +9,11 @@ use Rattle.protocol.specs.State.{size_in_range, durations_in_range}
 use Rattle.protocol.specs.Whole.{content_held, announcers_whole, grafts_whole, noted_once, record_within}
 use Rattle.block.specs.Layout.{table}
 use Rattle.block.specs.View.{settings_of, limits_of, byte_at, four_at, state_of}
+use Rattle.block.specs.Header.{limits_in}
 use Rattle.block.specs.declared.head.Head.{Head}
 use Rattle.block.specs.declared.head.Live.{Live}
 use Rattle.block.specs.Sound.{adjoin}
-use Rattle.whole.specs.Held.{has_tables, counts_within, all_below, places_name, numbers_name, all_lists}
+use Rattle.whole.specs.Held.{has_header, has_tables, counts_within, all_below, places_name, numbers_name, all_lists}
 
 -- links: their peers ascend
 unfoldable pub links_whole : Head → List ℕ → Bool
@@ -118,6 +119,10 @@ tables_whole h block =
 -- "a queue or record stands only with its flag"
 unfoldable pub flags_with : Live → Bool
 flags_with v = (eqb v.queued 0 || v.dispatch_timer_scheduled) && (eqb v.dropped 0 || v.announce_dropped_scheduled)
+
+-- the header is there, its limits are in range, and the block is as long as they ask
+unfoldable pub has_limits : List ℕ → Bool
+has_limits block = has_header block && has_tables (limits_of (limits_in block)) block
 
 -- what is asked of a header that is there, and of the block beside it
 unfoldable pub head_whole : Head → List ℕ → Bool

@@ -3,18 +3,21 @@
 
 pub mod create;
 pub mod laws;
+pub mod opened;
 pub mod states;
 mod tables;
 
-ghost use Rattle.std.specs.Prelude.{◌≡◌, ◌||◌, eqb};
+ghost use Rattle.std.specs.Prelude.{◌≡◌, true, ◌||◌, eqb};
 ghost use Rattle.block.specs.View.{limits_of};
 ghost use Rattle.block.specs.Fit.{Ceilings};
 ghost use Rattle.whole.specs.Held.{has_header, has_tables, counts_within, whole_block};
-ghost use Rattle.whole.specs.Parts.{flags_with, head_whole};
+ghost use Rattle.whole.specs.Parts.{flags_with, has_limits, head_whole};
+ghost use Rattle.whole.specs.Opens.{OpensBlock};
 
-use block::head::{HEADER_SIZE, Head, Limits, Live};
+use block::head::{HEADER_SIZE, Limits, Live};
 use block::header;
 use block::layout::Layout;
+use opened::Opened;
 use storage::rows::word;
 use tables::Tables;
 
@@ -70,28 +73,59 @@ fn has_tables(limits: Limits, block: &[u8]) -> bool
     create::limits_in_range(limits) && create::block_need(limits) <= block.len()
 }
 
+// The header is there, its limits are in range, and the block is as long as they ask: its tables can be looked for.
+#[tactic(auto, unfolding(crate::specs::Parts::has_limits), using(crate::proofs::WholeLaws::header_long))]
+pub fn has_limits(block: &[u8]) -> bool
+    ensures { result ≡ has_limits block.now }
+{
+    has_header(block) && has_tables(header::load_limits(block), block)
+}
+
+// The header and the layout of a block that has its limits.
+#[tactic(auto, using(crate::proofs::WholeLaws::limits_long))]
+pub fn open(block: &[u8]) -> Opened
+    requires { has_limits block.now ≡ true }
+    ensures { OpensBlock result block.now }
+{
+    let head = header::load_head(block);
+    Opened {
+        head,
+        layout: Layout::of(head.limits),
+    }
+}
+
 // What the header says is in range, and the tables are whole.
 #[tactic(auto, unfolding(crate::specs::Parts::head_whole), using(crate::proofs::HeldLaws::ceilings_there, crate::proofs::HeldLaws::fit_of))]
-fn head_whole(head: &Head, block: &[u8]) -> bool
-    ensures { result ≡ head_whole head.now block.now }
+fn head_whole(opened: &Opened, block: &[u8]) -> bool
+    requires { has_tables (limits_of opened.now.head.limits) block.now ≡ true }
+    ensures { result ≡ head_whole opened.now.head block.now }
 {
-    has_tables(head.limits, block)
-        && counts_within(head.limits, head.live)
+    let head = &opened.head;
+    counts_within(head.limits, head.live)
         && create::size_in_range(head.settings)
         && create::durations_in_range(head.settings)
         && flags_stand(head.live)
         && Tables {
             head,
-            layout: &Layout::of(head.limits),
+            layout: &opened.layout,
             block,
         }
         .tables_whole()
 }
 
+// (5) "Is the block whole?", of one that was opened.
+#[tactic(auto, using(crate::proofs::WholeLaws::opened_tables, crate::proofs::WholeLaws::opened_told))]
+pub fn is_whole_of(opened: &Opened, block: &[u8]) -> bool
+    requires { OpensBlock opened.now block.now }
+    ensures { result ≡ whole_block block.now }
+{
+    head_whole(opened, block)
+}
+
 // (5) "Is the block whole?"
-#[tactic(auto, using(crate::proofs::WholeLaws::header_long, crate::proofs::WholeLaws::no_header, crate::proofs::WholeLaws::whole_told))]
+#[tactic(auto, using(crate::proofs::WholeLaws::no_limits))]
 pub fn is_whole(block: &[u8]) -> bool
     ensures { result ≡ whole_block block.now }
 {
-    has_header(block) && head_whole(&header::load_head(block), block)
+    has_limits(block) && is_whole_of(&open(block), block)
 }

@@ -3,20 +3,18 @@
 ghost use Rattle.std.specs.Prelude.{◌≡◌, ℕ, Bool, true, ◌&&◌, List, ◌+◌, ◌-◌, ◌*◌, ◌≤◌, ◌<◌, length};
 ghost use Rattle.std.specs.Fn.{FnReturnsAt};
 ghost use Rattle.std.proofs.Props.{props};
-ghost use Rattle.storage.specs.Lists.Base.{ascending, sum};
-ghost use Rattle.storage.specs.Rows.Rows.{rows};
-ghost use Rattle.storage.specs.Refs.Refs.{refs, places, Below};
+ghost use Rattle.storage.specs.Lists.Base.{ascending};
+ghost use Rattle.storage.specs.Refs.Refs.{Below};
 ghost use Rattle.block.specs.View.{limits_of};
 ghost use Rattle.block.specs.Fit.{Fit};
 ghost use Rattle.block.specs.Layouts.{LaysOut};
-ghost use Rattle.block.specs.Sound.{adjoin};
 ghost use Rattle.whole.specs.Held.{all_below, all_lists};
-ghost use Rattle.whole.specs.Parts.{length_at, graft_list, missed_list, few};
+ghost use Rattle.whole.specs.Parts.{graft_list, missed_list, few};
 
 use block::caches::cached::MessageCache;
 use block::caches::grafted::GraftedMessages;
 use block::caches::received::ReceivedMessages;
-use block::caches::{cached, grafted};
+use block::caches::{contents, grafted};
 use block::head::{Head, MAX_LINKS};
 use block::hops::Hops;
 use block::layout::{Layout, Table};
@@ -25,7 +23,7 @@ use block::missing::Missed;
 use block::time_caches::PanelCache;
 use protocol::MAX_DROPPED_PER_PEER;
 use storage::rows::id::Id;
-use storage::rows::{table, word};
+use storage::rows::table;
 use storage::tables::Row;
 use storage::{notes, refs};
 
@@ -44,34 +42,6 @@ fn wide(byte: u8) -> usize
     ensures { result ≡ byte }
 {
     byte as usize
-}
-
-// The contents of cached rows adjoin: each starts where the one before it ends, and the last ends at `used`.
-fn adjoin(row_bytes: &[u8], row_count: usize, used: usize) -> bool
-    requires { row_count * 48 ≤ length row_bytes.now }
-    ensures { result ≡ adjoin 0 (rows 48 row_count row_bytes.now) used }
-{
-    let mut at = 0;
-    for i in 0..row_count {
-        if word::load4(row_bytes, i * cached::ROW_WIDTH + cached::START) != at {
-            return false;
-        }
-        at += word::load4(row_bytes, i * cached::ROW_WIDTH + cached::LEN);
-    }
-    at == used as u64
-}
-
-// The lengths of the contents of those cached rows that the entries name.
-fn named_lengths(entries: &[u8], entry_count: usize, row_bytes: &[u8], row_count: usize) -> u64
-    requires { (entry_count ≤ 65536) × (entry_count * 4 ≤ length entries.now) × (row_count * 48 ≤ length row_bytes.now) × Below row_count (places (refs 4 entry_count entries.now)) }
-    ensures { result ≡ sum (length_at (rows 48 row_count row_bytes.now)) (places (refs 4 entry_count entries.now)) }
-{
-    let mut total = 0;
-    for i in 0..entry_count {
-        let place = word::load2(entries, i * cached::ENTRY_WIDTH) as usize;
-        total += word::load4(row_bytes, place * cached::ROW_WIDTH + cached::LEN);
-    }
-    total
 }
 
 // The bytes are numbers of links, and ascend.
@@ -214,16 +184,19 @@ impl<'a> Tables<'a> {
         MessageCache::tables(self.head, self.layout).is_sound(self.block)
     }
 
-    // The contents of the cached rows adjoin.
+    // The contents of the cached rows adjoin: each starts where the one before it ends, and the last ends where the contents do.
     fn contents_adjoin(&self) -> bool
         ensures { result ≡ contents_adjoin self.now.head.now self.now.block.now }
     {
-        let rows_at = self.start(Table::CachedRows);
-        adjoin(
-            &self.block[rows_at..],
-            self.head.live.cached_rows,
-            self.head.live.contents,
-        )
+        let mut at = 0;
+        for row in 0..self.head.live.cached_rows {
+            let extent = contents::extent_of(self.head, self.layout, self.block, row);
+            if extent.start as u64 != at {
+                return false;
+            }
+            at += extent.len as u64;
+        }
+        at == self.head.live.contents as u64
     }
 
     // The contents of the cached messages are all that is used of the store.
@@ -232,14 +205,13 @@ impl<'a> Tables<'a> {
         requires contents_adjoin { contents_adjoin self.now.head.now self.now.block.now ≡ true }
         ensures { result ≡ contents_used self.now.head.now self.now.block.now }
     {
-        let at = self.start(Table::Cached);
-        let rows_at = self.start(Table::CachedRows);
-        let total = named_lengths(
-            &self.block[at..],
-            self.head.live.cached,
-            &self.block[rows_at..],
-            self.head.live.cached_rows,
-        );
+        let cache = MessageCache::tables(self.head, self.layout);
+        let mut total = 0;
+        for entry in 0..self.head.live.cached {
+            let row = cache.place(self.block, entry);
+            let extent = contents::extent_of(self.head, self.layout, self.block, row);
+            total += extent.len as u64;
+        }
         total == self.head.live.contents as u64
     }
 

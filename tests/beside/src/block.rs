@@ -1,6 +1,6 @@
 //! The layout of the block: a state written into it, a state read off it, and question 5 asked of
 //! it, independently of the library.
-use oracle::snap::{Cached, Grafted, Id, Notes, Snap};
+use oracle::snap::{by_id, Cached, Grafted, Id, Notes, Snap};
 
 use crate::rng::Rng;
 
@@ -157,7 +157,7 @@ fn expiry(b: &[u8], at: usize, stride: usize, n: usize) -> Read<Vec<(u64, Id)>> 
 fn places(b: &[u8], at: usize, stride: usize, n: usize, rows: &[(u64, Id)]) -> Read<Vec<usize>> {
     let v: Vec<_> = (0..n).map(|i| le(b, at + stride * i, 2) as usize).collect();
     ask(v.iter().all(|p| *p < rows.len()), "places among the rows")?;
-    ask(v.windows(2).all(|w| rows[w[0]].1 < rows[w[1]].1), "keys ascend")?;
+    ask(v.windows(2).all(|w| by_id(&rows[w[0]].1, &rows[w[1]].1).is_lt()), "keys ascend")?;
     Ok(v)
 }
 
@@ -189,17 +189,27 @@ fn notes(b: &[u8], numbers: usize, rows: usize, n: usize, peers: &[u64]) -> Read
     Ok(peers.iter().copied().zip(lists).filter(|e| !e.1.is_empty()).collect())
 }
 
-/// Whether each identifier of a list stands once.
+/// A neighbour's record has at most so many identifiers.
+const RECORD: usize = 256;
+
+/// Whether each identifier of a record stands once.
 fn once(list: &[(Id, u16)]) -> bool {
-    // Most differ in their first eight bytes.
-    let mut fronts: Vec<u64> = list.iter().map(|e| le(&e.0, 0, 8)).collect();
-    fronts.sort_unstable();
-    if fronts.windows(2).all(|w| w[0] < w[1]) {
-        return true;
-    }
-    let mut ids: Vec<&Id> = list.iter().map(|e| &e.0).collect();
-    ids.sort_unstable();
-    ids.windows(2).all(|w| w[0] < w[1])
+    const SLOTS: usize = 4 * RECORD;
+    assert!(list.len() <= RECORD, "a record that was not asked for its length");
+    // An identifier stands at the first free slot from the one on that its first bytes say: its place in the list and one more; 0 is a free slot.
+    let mut slots = [0u16; SLOTS];
+    let mut enter = |place: usize, id: &Id| {
+        let mut at = (le(id, 0, 8).wrapping_mul(0x9e37_79b9_7f4a_7c15) >> 32) as usize % SLOTS;
+        while slots[at] != 0 {
+            if list[usize::from(slots[at]) - 1].0 == *id {
+                return false;
+            }
+            at = (at + 1) % SLOTS;
+        }
+        slots[at] = place as u16 + 1;
+        true
+    };
+    list.iter().enumerate().all(|(i, e)| enter(i, &e.0))
 }
 
 fn to_peers(v: Vec<(usize, u16)>, peers: &[u64]) -> Vec<(u64, u16)> {
@@ -294,7 +304,7 @@ pub fn read(b: &[u8]) -> Read<Snap> {
     ask(queue.is_empty() || dispatch, "a queue with its flag")?;
     ask(dropped.is_empty() || announce, "a record with its flag")?;
     for (_, v) in &dropped {
-        ask(v.len() <= 256, "records within 256")?;
+        ask(v.len() <= RECORD, "records within 256")?;
         ask(once(v), "recorded once")?;
     }
     Ok(Snap {

@@ -2,7 +2,7 @@
 use crate::{
     block::{self, CEILINGS},
     library,
-    rng::Rng,
+    rng::{cover, covered, Rng},
 };
 
 /// A block is longer than it need be by at most so many bytes.
@@ -30,15 +30,16 @@ fn in_range(max: &[u64; 9]) -> bool {
     (0..9).all(|i| (1..=CEILINGS[i]).contains(&max[i]))
 }
 
-/// The memory of the blocks of creations.
+/// The memory of the blocks of creations, which is covered with bytes of any value before each; where a block begins is drawn.
 pub struct Creations {
     bytes: Vec<u8>,
-    before: Vec<u8>,
 }
 
 impl Default for Creations {
     fn default() -> Creations {
-        Creations { bytes: vec![0; block::need(&CEILINGS) + MORE], before: Vec::new() }
+        let mut bytes = vec![0; block::need(&CEILINGS) + MORE];
+        cover(0, &mut bytes);
+        Creations { bytes }
     }
 }
 
@@ -79,22 +80,25 @@ impl Creations {
         // At the end of the memory, so that valgrind tells a step beyond the block.
         let from = self.bytes.len() - len;
         let bytes = &mut self.bytes[from..];
-        r.fill(bytes);
         let any = [r.next(), r.next(), r.below(65536)];
-        one(me, m, cfg, max, bytes, &mut self.before, any).map_err(|e| {
+        let number = one(me, m, cfg, max, bytes, from, any).map_err(|e| {
             format!("creation: me {me} M {m} settings {cfg:?} limits {max:?} length {len}: {e}")
-        })
+        })?;
+        if number == 0 {
+            cover(from, &mut bytes[..block::need(&max)]);
+        }
+        Ok(number)
     }
 }
 
-/// A creation in these bytes, with any counts.
+/// A creation in these bytes, which are covered with those of this place, with any counts.
 fn one(
     me: u64,
     m: u64,
     cfg: [u64; 7],
     max: [u64; 9],
     bytes: &mut [u8],
-    before: &mut Vec<u8>,
+    place: usize,
     any: [u64; 3],
 ) -> Result<u64, String> {
     let size = if in_range(&max) { block::need(&max) as u64 } else { 0 };
@@ -105,14 +109,12 @@ fn one(
     let number = expected(m, cfg, max, bytes.len());
     // What a creation leaves as it is: all, or what is behind the need.
     let from = if number == 0 { block::need(&max) } else { 0 };
-    before.clear();
-    before.extend_from_slice(&bytes[from..]);
     let mut counts = any;
     let ours = library::create(bytes, &mut counts, me, m, cfg, max);
     if ours != (library::Answer { number, length: 0, kept: true }) {
         return Err(format!("{number}, the library {ours:?}"));
     }
-    let untouched = bytes[from..] == *before;
+    let untouched = covered(place + from, &bytes[from..]);
     if number != 0 {
         if !untouched || counts != any {
             return Err("refused, but the block or the counts changed".into());

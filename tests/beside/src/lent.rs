@@ -3,7 +3,7 @@ use crate::run::{holds, Same};
 
 /// Bytes kept around everything that is lent.
 const PAD: usize = 64;
-const PATTERN: u8 = 0xa5;
+pub const PATTERN: u8 = 0xa5;
 /// All of an output is looked at behind so many calls.
 pub const SELDOM: u32 = 256;
 
@@ -37,16 +37,17 @@ impl Lent {
 
     /// From here on the part has these bytes.
     pub fn put(&mut self, bytes: &[u8]) {
-        self.put_padded(bytes, PATTERN);
+        self.put_front(bytes, bytes.len(), PATTERN);
     }
 
-    /// The same between pads of another byte, for what a step beyond the part would read.
-    pub fn put_padded(&mut self, bytes: &[u8], pad: u8) {
-        (self.len, self.pad) = (bytes.len(), pad);
+    /// From here on the part has these bytes, with zeros behind them up to a length, between pads of this byte, which a step beyond the part would read.
+    pub fn put_front(&mut self, front: &[u8], len: usize, pad: u8) {
+        (self.len, self.pad) = (len, pad);
         self.bytes.clear();
-        self.bytes.reserve(bytes.len() + 2 * PAD);
+        self.bytes.reserve(len + 2 * PAD);
         self.bytes.extend_from_slice(&[pad; PAD]);
-        self.bytes.extend_from_slice(bytes);
+        self.bytes.extend_from_slice(front);
+        self.bytes.resize(PAD + len, 0);
         self.bytes.extend_from_slice(&[pad; PAD]);
     }
 
@@ -136,8 +137,8 @@ impl Block {
 /// An output. Its bytes are `PATTERN`; each call is lent a front of them, and what it may write, up to the length that it answers, is set back before the next one.
 ///
 /// All others must stay as they are. Behind each call this is asked of as many as calls have used since all were looked at, and of the last ones of the part with the pads; of all
-/// that were lent, with the pads, behind every `every`th call and at the end of a list. Where a call is about to use more, it is first asked of those. So a byte that was written
-/// beyond a length is found in the same list, by this call or a later one, unless somebody writes `PATTERN` there again.
+/// that were lent, with the pads, behind every `every`th call, sooner where as many bytes were looked at since, and at the end of a list. Where a call is about to use more, it is
+/// first asked of those. So a byte that was written beyond a length is found in the same list, by this call or a later one, unless somebody writes `PATTERN` there again.
 pub struct Output {
     bytes: Vec<u8>,
     len: usize,
@@ -147,15 +148,16 @@ pub struct Output {
     written: usize,
     /// So many bytes are looked at behind each call.
     used: usize,
-    /// Calls since all were looked at.
+    /// Calls since all were looked at, and the bytes that were looked at behind them.
     calls: u32,
+    looked_at: usize,
     every: u32,
 }
 
 impl Output {
     pub fn new(every: u32) -> Output {
         let bytes = vec![PATTERN; 2 * PAD];
-        Output { bytes, len: 0, most: 0, written: 0, used: 0, calls: 0, every }
+        Output { bytes, len: 0, most: 0, written: 0, used: 0, calls: 0, looked_at: 0, every }
     }
 
     /// Lends so many bytes to a call that should write `expected` of them.
@@ -186,11 +188,12 @@ impl Output {
     pub fn kept(&mut self, length: usize) -> Same<()> {
         holds(length <= self.len, "a length beyond the output")?;
         self.written = length;
+        self.used = self.used.max(length);
         self.calls += 1;
-        if self.calls >= self.every {
+        self.looked_at += self.used;
+        if self.calls >= self.every || self.looked_at > self.most {
             return self.look();
         }
-        self.used = self.used.max(length);
         let last = self.len.saturating_sub(PAD).max(length);
         self.untouched(length, self.used.min(self.len))?;
         self.untouched(last, self.len)?;
@@ -200,7 +203,7 @@ impl Output {
     /// Nothing but what the last call may write was written.
     pub fn look(&mut self) -> Same<()> {
         let most = std::mem::replace(&mut self.most, self.len);
-        (self.calls, self.used) = (0, self.written);
+        (self.calls, self.looked_at, self.used) = (0, 0, self.written);
         self.untouched(self.written, self.len)?;
         self.pads(most - self.len + PAD)
     }

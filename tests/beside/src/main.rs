@@ -14,7 +14,6 @@ mod sample;
 mod script;
 mod second;
 mod states;
-mod text;
 mod wire;
 
 use std::{

@@ -349,9 +349,8 @@ struct Handed {
 impl Paths {
     fn hit(&mut self, name: &'static str) {
         let is = |all: &[&str]| all.contains(&name);
-        let first = self.hits.tell(name);
-        let known = is(ALL) || is(FORGOTTEN) || is(RETIRED) || is(QUIET);
-        assert!(!first || known, "{name}");
+        let known = || is(ALL) || is(FORGOTTEN) || is(RETIRED) || is(QUIET);
+        assert!(!self.hits.tell(name) || known(), "{name}");
     }
 
     fn hit_if(&mut self, yes: bool, name: &'static str) {

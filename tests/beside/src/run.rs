@@ -19,7 +19,6 @@ use crate::{
     script::Cmd,
     second::{self, First, Seconds},
     states::{Asked, Keeper},
-    text,
     wire::{self, Action, Message},
 };
 
@@ -53,6 +52,8 @@ pub struct Pair {
     block: Block,
     /// The block's bytes behind the needed length.
     behind: Vec<u8>,
+    /// The memory of the other block of *alike*.
+    other: Lent,
     counts: [u64; 3],
     out: Output,
     saved: Option<Saved>,
@@ -117,6 +118,7 @@ impl Pair {
             likeness: None,
             block: Block::new(0),
             behind: Vec::new(),
+            other: Lent::new(0),
             counts: [0; 3],
             out: Output::new(every),
             saved: None,
@@ -149,9 +151,12 @@ impl Pair {
             Cmd::New { me, m, cfg } => {
                 self.end()?;
                 let old = std::mem::replace(self, Pair::looking(self.every));
-                // Of what was before, the outputs stay as memory, and a panel that was put aside.
+                // Of what was before, outputs, blocks and areas stay as memory, and a panel that was put aside.
                 self.out = old.out;
+                self.block = old.block;
+                self.other = old.other;
                 self.rewriter.take_output(old.rewriter);
+                self.keeper.take_memory(old.keeper);
                 self.seconds.go_on(old.seconds);
                 self.settings = Some((*me, *m, *cfg));
                 self.garbage = Rng::new(*me ^ *m ^ cfg[4]);
@@ -248,7 +253,7 @@ impl Pair {
             return Ok(());
         }
         let mut block = vec![0; block::need(&self.limits.max) + r.pick(&[0, 1, 50, 3000])];
-        r.fill(&mut block);
+        r.cover(&mut block);
         block::write(&mut r, &mut block, &self.limits.max, &snap);
         let (first, seconds) = self.first();
         let told = seconds.goes_along(first, &block, first.counts)?;
@@ -285,7 +290,7 @@ impl Pair {
             return Err("script: another panel does not fit".into());
         }
         let mut second = Block::new(len);
-        self.garbage.fill(second.part_mut());
+        self.garbage.cover(second.part_mut());
         let snap = Rc::new(sorted(panel.snap()));
         block::write(&mut self.garbage, second.part_mut(), max, &snap);
         let known = block::read(second.part()).is_ok().then_some((&panel, &snap));
@@ -352,7 +357,7 @@ impl Pair {
     /// A new block full of anything.
     fn fill(&mut self, len: usize) {
         self.block.set_len(len);
-        self.garbage.fill(self.block.part_mut());
+        self.garbage.cover(self.block.part_mut());
     }
 
     fn note_behind(&mut self, need: usize) {
@@ -490,8 +495,9 @@ impl Pair {
 
     /// *Alike*, of the block and one that holds another state, both ways.
     fn alike(&mut self, max: &[u64; 9], other: &Snap) -> Same<()> {
-        let mut second = Lent::new(block::need(max));
-        self.garbage.fill(second.part_mut());
+        let second = &mut self.other;
+        second.set_len(block::need(max));
+        self.garbage.cover(second.part_mut());
         let as_before = *max == self.limits.max && second.part().len() <= self.block.part().len();
         if as_before && self.garbage.chance(50.0) {
             // What the state leaves free are the bytes of this block, rows behind shorter lists too.
@@ -570,7 +576,7 @@ fn within(s: &Snap) -> bool {
 
 /// The Rust's panel with this state, counts zero.
 pub fn loaded(s: &Snap) -> Same<Panel> {
-    Panel::load(&text::of(s)).ok_or("a state that the Rust does not load".into())
+    Panel::of(s).ok_or("a state that the Rust does not load".into())
 }
 
 /// Grafted peers of an identifier are a map, the block has them ascending.

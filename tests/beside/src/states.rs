@@ -11,7 +11,7 @@ use oracle::{
 
 use crate::{
     block::{self, le},
-    lent::{all_are, Block, Lent},
+    lent::{all_are, Block, Lent, PATTERN},
     library,
     run::{holds, loaded, same, Same},
 };
@@ -184,12 +184,34 @@ type Told = Result<Vec<Slot>, &'static str>;
 /// The bytes that an area should have, and what is known of them.
 #[derive(Clone, Default)]
 struct Area {
-    bytes: Vec<u8>,
+    length: usize,
+    /// Its bytes up to the last state, or the last byte that somebody else changed; all others are 0.
+    front: Vec<u8>,
     kept: Vec<Kept>,
     /// The length of the blocks saved last.
     n: usize,
     /// For this length of blocks the model told that, and no byte was changed since.
     told: Option<(usize, Told)>,
+}
+
+impl Area {
+    /// An area of zeros.
+    fn new(length: usize, n: usize) -> Area {
+        Area { length, n, ..Area::default() }
+    }
+
+    /// Its first bytes, up to this place at least.
+    fn up_to(&mut self, place: usize) -> &mut [u8] {
+        if self.front.len() < place {
+            self.front.resize(place, 0);
+        }
+        &mut self.front
+    }
+
+    fn is(&self, bytes: &[u8]) -> bool {
+        let (front, behind) = bytes.split_at(self.front.len());
+        bytes.len() == self.length && front == self.front && all_are(behind, 0)
+    }
 }
 
 /// What a saving or a return is asked with: the block and what is known of it.
@@ -254,8 +276,9 @@ fn named(call: &str, rest: &str) -> &'static str {
 }
 
 impl Keeper {
+    /// The area that is lent. Before and behind each call its bytes are those that it should have.
     pub fn area(&self) -> &[u8] {
-        &self.area.bytes
+        self.lent.part()
     }
 
     /// The names kept, in their order.
@@ -263,9 +286,15 @@ impl Keeper {
         self.area.kept.iter().map(|k| k.slot.name).collect()
     }
 
+    /// Goes on with the memory of an earlier one.
+    pub fn take_memory(&mut self, old: Keeper) {
+        self.lent = old.lent;
+        self.lend();
+    }
+
     /// A new area of zeros.
     pub fn begin(&mut self, length: usize) {
-        self.area = Area { bytes: vec![0; length], n: self.area.n, ..Area::default() };
+        self.area = Area::new(length, self.area.n);
         self.undamaged = None;
         self.lend();
     }
@@ -282,9 +311,9 @@ impl Keeper {
     pub fn poke(&mut self, v: &[(usize, u8)]) {
         self.remember();
         for (i, b) in v {
-            if let Some(x) = self.area.bytes.get_mut(*i) {
+            if let Some(x) = self.lent.part_mut().get_mut(*i) {
                 *x = *b;
-                self.lent.part_mut()[*i] = *b;
+                self.area.up_to(i + 1)[*i] = *b;
             }
         }
     }
@@ -292,18 +321,15 @@ impl Keeper {
     /// Only so many bytes of the area are lent.
     pub fn cut(&mut self, n: usize) {
         self.remember();
-        self.area.bytes.truncate(n);
+        self.area.length = n.min(self.area.length);
+        self.area.front.truncate(n);
         self.lend();
     }
 
     /// Lends the bytes of the area. Behind one that is too short for the byte that says how many are kept stands a 0, which would say that none are.
     fn lend(&mut self) {
-        let bytes = &self.area.bytes;
-        if bytes.len() < FRONT {
-            self.lent.put_padded(bytes, 0);
-        } else {
-            self.lent.put(bytes);
-        }
+        let Area { length, front, .. } = &self.area;
+        self.lent.put_front(front, *length, if *length < FRONT { 0 } else { PATTERN });
     }
 
     pub fn undo(&mut self) -> Same<()> {
@@ -319,8 +345,8 @@ impl Keeper {
         if let Some((_, told)) = area.told.as_ref().filter(|t| t.0 == n) {
             return told.clone();
         }
-        let mut told = keeps(&area.bytes, n);
-        if self.undamaged.is_none() && area.bytes.len() >= 4 * n + FRONT {
+        let mut told = keeps(self.lent.part(), n);
+        if self.undamaged.is_none() && area.length >= 4 * n + FRONT {
             if n == area.n || area.kept.is_empty() {
                 let saved: Vec<Slot> = area.kept.iter().map(|k| k.slot.clone()).collect();
                 assert!(
@@ -390,7 +416,7 @@ impl Keeper {
         holds(asked.block.pads_kept(), "save wrote outside of the block")?;
         holds(self.lent.pads_kept(), "save wrote outside of the area")?;
         if number != 0 {
-            holds(self.lent.part() == self.area.bytes, "a refused saving changed the area")?;
+            holds(self.area.is(self.lent.part()), "a refused saving changed the area")?;
             match told {
                 _ if number == 5 => self.not_whole("save", n, name),
                 Ok(_) => self.about.push("save: 16"),
@@ -417,10 +443,14 @@ impl Keeper {
             kept[i] = new;
         }
         let all: Vec<Slot> = kept.iter().map(|k| k.slot.clone()).collect();
-        let bytes = &mut self.area.bytes;
-        all[i].put(bytes, i);
-        bytes[COUNT] = all.len() as u8;
-        same_bytes("area after a saving", bytes, self.lent.part())?;
+        let front = self.area.up_to(FRONT + n * all.len());
+        all[i].put(front, i);
+        front[COUNT] = all.len() as u8;
+        let bytes = self.lent.part();
+        if !self.area.is(bytes) {
+            self.area.up_to(bytes.len());
+            same_bytes("area after a saving", &self.area.front, bytes)?;
+        }
         self.savings += 1;
         if self.savings % SELDOM == 0 {
             assert!(*bytes == lay_out(bytes.len(), &all), "an area of savings, laid out");
@@ -489,7 +519,7 @@ impl Keeper {
         holds(a.kept, "return wrote outside of the counts")?;
         holds(asked.block.pads_kept(), "return wrote outside of the block")?;
         holds(self.lent.pads_kept(), "return wrote outside of the area")?;
-        holds(self.lent.part() == self.area.bytes, "a return changed the area")?;
+        holds(self.area.is(self.lent.part()), "a return changed the area")?;
         if number != 0 {
             same("counts of a refused return", asked.counts, counts)?;
             holds(asked.block.unchanged(), "a refused return changed the block")?;

@@ -301,8 +301,12 @@ impl Panel {
 
     /// The state that a `dump` line tells, counts zero.
     pub fn load(dump: &str) -> Option<Panel> {
-        let words: Vec<&str> = dump.split_whitespace().collect();
-        let (state, quiet) = oracle::load(&words)?;
+        Panel::of(&Snap::read(dump)?)
+    }
+
+    /// The state of these values, counts zero.
+    pub fn of(snap: &Snap) -> Option<Panel> {
+        let (state, quiet) = oracle::unsnap(snap)?;
         Some(Panel { state, quiet })
     }
 

@@ -10,7 +10,7 @@ use Rattle.protocol.proofs.ConsistentSteps.{core-missing, core-timers}
 use Rattle.protocol.proofs.ConsistentTables.{Announcers, of-announcers, announcers-add, ascending-insert_key}
 use Rattle.protocol.proofs.WholeKept.{known-announcers}
 use Rattle.decide.specs.StateAfter.{announced_state, ihave_state}
-use Rattle.block.specs.MissingSteps.{hop, announced}
+use Rattle.block.specs.MissingSteps.{hop, with_announcer}
 use Rattle.block.specs.TimerSteps.{timer_marked}
 use Rattle.block.proofs.Few.{once-few}
 use Rattle.block.proofs.LinkLaws.{neighbour-here}
@@ -82,7 +82,7 @@ module _ (id : ℕ) (h : Hop) (s : State) (x : Consistent s) (near : is_neighbou
       let few = once-few s.links (map (λ (y : Hop). y.peer) hs) adds.apiece (all_map (λ p. is_neighbour p s.links) (λ (y : Hop). y.peer) hs ∙ adds.near) in
       omega (arith, few, length-map hs (λ (y : Hop). y.peer))
 
-  announced-consistent : Consistent (announced id h s)
+  announced-consistent : Consistent (with_announcer id h s)
   announced-consistent = record {
     core = core-missing _ s (ascending-insert id _ s.missing x.core.missing_up)
         (all-insert-entry (announcers_whole s.links) id _ s.missing (of-announcers s.links id _ adds) x.core.announcing) x.core;
@@ -90,7 +90,7 @@ module _ (id : ℕ) (h : Hop) (s : State) (x : Consistent s) (near : is_neighbou
     record_flag = x.record_flag;
   }
 
-announced-hears : (id : ℕ) (h : Hop) (s : State) → Hears s (announced id h s)
+announced-hears : (id : ℕ) (h : Hop) (s : State) → Hears s (with_announcer id h s)
 announced-hears id h s = record {
   missing = insert id (add_announcer h (announcers id s)) s.missing;
   timers = s.timers.graft;
@@ -105,7 +105,7 @@ pub announced-received : (p : ℕ) (h : Ihave) (s : State) → holds h.id s.rece
 unfolding announced_state
 announced-received p h s e = rw e refl
 
-pub announced-missing : (p : ℕ) (h : Ihave) (s : State) → holds h.id s.received ≡ false → announced_state p h s ≡ timer_marked h.id (announced h.id (hop p h.round) s)
+pub announced-missing : (p : ℕ) (h : Ihave) (s : State) → holds h.id s.received ≡ false → announced_state p h s ≡ timer_marked h.id (with_announcer h.id (hop p h.round) s)
 unfolding announced_state timer_marked
 announced-missing p h s e = rw e refl
 
@@ -114,14 +114,14 @@ one-hears p h s =
     cases (holds h.id s.received)
     (λ e. subst (λ (t : State). Hears s t) (sym (announced-received p h s e)) (hears-still s))
     (λ e. subst (λ (t : State). Hears s t) (sym (announced-missing p h s e))
-    (hears-then s (announced h.id (hop p h.round) s) _ (announced-hears h.id (hop p h.round) s) (marked-hears h.id (announced h.id (hop p h.round) s))))
+    (hears-then s (with_announcer h.id (hop p h.round) s) _ (announced-hears h.id (hop p h.round) s) (marked-hears h.id (with_announcer h.id (hop p h.round) s))))
 
 pub one-consistent : (p : ℕ) (h : Ihave) (s : State) → is_neighbour p s.links ≡ true → Consistent s → Consistent (announced_state p h s)
 one-consistent p h s n x =
     cases (holds h.id s.received)
     (λ e. subst (λ (t : State). Consistent t) (sym (announced-received p h s e)) x)
     (λ e. subst (λ (t : State). Consistent t) (sym (announced-missing p h s e))
-    (marked-consistent h.id (announced h.id (hop p h.round) s) (announced-consistent h.id (hop p h.round) s x n)))
+    (marked-consistent h.id (with_announcer h.id (hop p h.round) s) (announced-consistent h.id (hop p h.round) s x n)))
 
 -- all of an IHave
 

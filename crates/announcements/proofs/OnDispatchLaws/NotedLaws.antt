@@ -6,7 +6,7 @@ use Rattle.storage.specs.Lists.Base.{any, count, filter}
 use Rattle.protocol.specs.Push.{record_full}
 use Rattle.protocol.specs.Ticks.{queued_for}
 use Rattle.decide.specs.RecordGrowth.{add_note, add_notes}
-use Rattle.announcements.specs.Marks.{low_of, Covers}
+use Rattle.announcements.specs.Marks.{place_of, Covers}
 use Rattle.announcements.specs.QueuedRows.{ihave_of, ihaves_at, notes_at, among, RowsOf}
 use Rattle.announcements.proofs.OnDispatchLaws.MarkLaws.{covers_more}
 use Rattle.announcements.proofs.OnDispatchLaws.QueueLaws.{notes-append, notes-one, notes-none, drop-late}
@@ -156,7 +156,7 @@ module _ (p : ℕ) (ds ns : List Note) (recorded : List ℕ) (before : ℕ) wher
     }
 
     -- and its mark
-    pub marked-next : {mark : ℕ} {marks : List ℕ} → Covers (known rows) mark marks → Covers (known (rows ++ (r ∷ []))) mark (set marks (low_of x.id) mark)
+    pub marked-next : {m mark : ℕ} {marks : List ℕ} → Covers m (known rows) mark marks → Covers m (known (rows ++ (r ∷ []))) mark (set marks (place_of m x.id) mark)
     marked-next c = covers_more c x.id (known (rows ++ (r ∷ []))) (λ j k. by (or_cases (known rows j) (among j (ihave_of x ∷ [])) (sym (known-next j) ∙ k)))
       where
         by : {j : ℕ} → (known rows j ≡ true) ⊎ (among j (ihave_of x ∷ []) ≡ true) → (known rows j ≡ true) ⊎ (j ≡ x.id)

@@ -1,4 +1,4 @@
-// What of the queue is handed back and noted. A call finds it twice: `dispatch_sizes` counts it for question 13, and `on_dispatch_timer` adds it to the record.
+// What of the queue is handed back and noted. A call finds it once: `dispatch_sizes` counts it for question 13, and `on_dispatch_timer` adds it to the record.
 ghost use Rattle.std.specs.Prelude.{ℕ, ◌≡◌, ◌≤◌, ◌<◌, ◌+◌, ◌*◌, ◌||◌, false, leb, min, length, All, get_or, [], ◌++◌};
 ghost use Rattle.storage.specs.Rows.Ident.{id_of};
 ghost use Rattle.protocol.specs.Ticks.{per_message, queued_peers};
@@ -10,7 +10,7 @@ ghost use Rattle.steps.specs.Groups.{Apart, part};
 ghost use Rattle.block.specs.Panels.{AtRest};
 ghost use Rattle.block.specs.NoteSteps.{note_at};
 ghost use Rattle.block.specs.Views.{shown};
-ghost use Rattle.announcements.specs.Marks.{low_of, Covers, Found};
+ghost use Rattle.announcements.specs.Marks.{place_of, Covers, FoundCached};
 ghost use Rattle.announcements.specs.QueuedRows.{held_then, ihaves_at, notes_at, among, RowsOf, Mine, LinkPart};
 
 use crate::on_dispatch_timer::per_message;
@@ -28,29 +28,47 @@ use storage::rows::id::Id;
 // How many marks there are. A link's mark is one more than its number: an identifier without it is none of those that were marked for the link.
 const MARKS: usize = 4096;
 
-// What a link hands back, and when: rows of the queue. `recorded` are its rows of the record.
+// By what a word is multiplied so that each of its bits changes many: 2 to the 64th over the golden ratio, made odd.
+const SPREAD: u64 = 0x9E37_79B9_7F4A_7C15;
+
+// How many of its lowest bits a word loses so that `MARKS` numbers are left.
+const BELOW_PLACE: u64 = 1 << 52;
+
+// What a link hands back, and when: rows of the queue. `recorded` are its rows of the record. Identifiers have their places by the multiplier.
 #[derive(Clone, Copy)]
 struct HandedBack<'a> {
     instant: Millis,
+    multiplier: u64,
     link: usize,
     recorded: &'a [u16],
     rows: &'a [u16],
 }
 
-// The low twelve bits of an identifier: where its mark stands, and by which a row that has it is found.
-fn low(id: Id) -> usize
-    ensures { result ≡ low_of (id_of id) }
+// A multiplier for places: an odd number that each cached identifier changes. What is queued was cached first, so whoever sends identifiers cannot choose them for one place.
+// What is noted does not hang on it, only how long that takes. Its time is that of one pass over the rows of the message cache.
+fn multiplier(view: &View) -> u64 {
+    let mut mixed = SPREAD;
+    for row in 0..view.head.live.cached_rows {
+        let product = (mixed ^ view.row_id(row).w3).wrapping_mul(SPREAD);
+        mixed = product ^ (product >> 32);
+    }
+    mixed | 1
+}
+
+// The place of an identifier: where its mark stands, and by which a row that has it is found.
+fn place(id: Id, multiplier: u64) -> usize
+    ensures { result ≡ place_of multiplier (id_of id) }
 {
-    (id.w3 % MARKS as u64) as usize
+    (id.w3.wrapping_mul(multiplier) / BELOW_PLACE) as usize
 }
 
 // Marks these rows of the record by a link's mark.
-fn mark(view: &View, recorded: &[u16], own_mark: u8, marks: &mut [u8; MARKS])
-    requires { RowsOf (shown view.now).dropped recorded.now }
-    ensures { Covers (λ id. among id (ihaves_at (shown view.now).dropped recorded.now)) own_mark marks.new }
+fn mark(view: &View, back: &HandedBack, own_mark: u8, marks: &mut [u8; MARKS])
+    requires { RowsOf (shown view.now).dropped back.now.recorded.now }
+    ensures { Covers back.now.multiplier (λ id. among id (ihaves_at (shown view.now).dropped back.now.recorded.now)) own_mark marks.new }
 {
-    for row in recorded {
-        marks[low(view.recorded(*row as usize).id)] = own_mark;
+    for row in back.recorded {
+        marks[place(view.recorded(*row as usize).id, back.multiplier)] = own_mark;
     }
 }
 
@@ -100,26 +118,26 @@ fn is_full(own: usize, all: usize) -> bool
     MAX_DROPPED_PER_PEER <= own || MAX_DROPPED <= all
 }
 
-// Whether an identifier of the queue is cached then; `row` has it. An identifier that was found in the message cache is not looked up there again: by its low bits
-// `found` names a row that has it, unless another that was found there later has the same low bits.
-fn is_cached(view: &View, instant: Millis, found: &mut [u16], row: u16, id: Id) -> bool
+// Whether the identifier of a row of the queue is cached then. One that was found in the message cache is not looked up there again: by its place `found` names a row that has
+// it, unless another that was found there later has the same place.
+fn look_up_cached(view: &View, instant: Millis, found: &mut [u16], row: u16, place: usize) -> bool
     requires rest { AtRest (shown view.now) }
     requires some { 0 < length found.old }
     requires row { row < length (shown view.now).queue }
-    requires id { (note_at (shown view.now).queue row).id ≡ id_of id }
-    requires found { Found instant.0 (shown view.now) found.old }
-    ensures held { result ≡ held_then instant.0 (shown view.now) (id_of id) }
-    ensures found { Found instant.0 (shown view.now) found.new }
+    requires found { FoundCached instant.0 (shown view.now) found.old }
+    ensures held { result ≡ held_then instant.0 (shown view.now) (note_at (shown view.now).queue row).id }
+    ensures found { FoundCached instant.0 (shown view.now) found.new }
 {
-    let place = low(id) & (found.len() - 1);
-    let named = found[place] as usize;
+    let id = view.queued(row as usize).id;
+    let at = place & (found.len() - 1);
+    let named = found[at] as usize;
     if 0 < named && view.queued(named - 1).id == id {
         return true;
     }
     if !is_cached_then(view, instant, id) {
         return false;
     }
-    found[place] = row + 1;
+    found[at] = row + 1;
     true
 }
 
@@ -136,17 +154,17 @@ fn note_link(
     requires recorded { Mine (shown view.now) (shown view.now).dropped back.now.link back.now.recorded.now }
     requires back { LinkPart (shown view.now) back.now.link back.now.rows.now }
     requires some { 0 < length found.old }
-    requires found { Found back.now.instant.0 (shown view.now) found.old }
+    requires found { FoundCached back.now.instant.0 (shown view.now) found.old }
     requires rows { RowsOf (shown view.now).queue noted.old.items }
     requires below { All (λ i. (note_at (shown view.now).queue i).peer < peer_at (shown view.now) back.now.link) noted.old.items }
     ensures noted { add_notes (held_then back.now.instant.0 (shown view.now)) (peer_at (shown view.now) back.now.link) (ihaves_at (shown view.now).queue back.now.rows.now) ((shown view.now).dropped ++ notes_at (shown view.now).queue noted.old.items) ≡ (shown view.now).dropped ++ notes_at (shown view.now).queue noted.new.items }
-    ensures found { Found back.now.instant.0 (shown view.now) found.new }
+    ensures found { FoundCached back.now.instant.0 (shown view.now) found.new }
     ensures rows { RowsOf (shown view.now).queue noted.new.items }
     ensures upto { All (λ i. (note_at (shown view.now).queue i).peer ≤ peer_at (shown view.now) back.now.link) noted.new.items }
 {
     let before = noted.len();
     let own_mark = back.link as u8 + 1;
-    mark(view, back.recorded, own_mark, marks);
+    mark(view, back, own_mark, marks);
     for row in back.rows {
         let own = &noted.as_slice()[before..];
         if is_full(
@@ -156,11 +174,11 @@ fn note_link(
             return;
         }
         let id = view.queued(*row as usize).id;
-        let place = low(id);
+        let place = place(id, back.multiplier);
         if is_there(view, back.recorded, own, marks[place] == own_mark, id) {
             continue;
         }
-        if is_cached(view, back.instant, found, *row, id) {
+        if look_up_cached(view, back.instant, found, *row, place) {
             marks[place] = own_mark;
             noted.push(*row);
         }
@@ -193,23 +211,23 @@ pub fn may_hand_back(view: &View, call: &Call) -> bool
 }
 
 // The rows of the queue that are handed back and noted, "peers ascending". Few rows are grouped in little memory. It is never inlined: no other
-// event is to have these rows on the stack. Its time is that of two passes over the queue and the record, and of a look-up in the message cache for each identifier that
-// is handed back and not there: of one that is cached mostly once for all links together.
+// event is to have these rows on the stack. Its time is that of two passes over the queue and the record, one over the rows of the message cache, and of a look-up in the message cache for each identifier that
+// is handed back and not there: of one that is cached mostly once for all links together. Which identifiers are sent changes it by less than a half.
 #[inline(never)]
-pub fn to_note(view: &View, call: &Call, noted: &mut ArrayVec<u16, MAX_DROPPED>)
+pub fn find_noted(view: &View, call: &Call, noted: &mut ArrayVec<u16, MAX_DROPPED>)
     requires rest { AtRest (shown view.now) }
     requires none { noted.old.items ≡ [] }
     ensures noted { add_batches (held_then call.now.instant.0 (shown view.now)) (dispatch_batches (rooms_of call.now (shown view.now)) (queued_peers (shown view.now).queue) (per_message (shown view.now).settings.max_message_size) (shown view.now).queue) (shown view.now).dropped ≡ (shown view.now).dropped ++ notes_at (shown view.now).queue noted.new.items }
     ensures rows { RowsOf (shown view.now).queue noted.new.items }
 {
     if view.queue_len() <= FEW_ROWS && view.record_len() <= FEW_ROWS {
-        return to_note_in::<FEW_ROWS, FEW_ROWS, FEW_ROWS>(view, call, noted);
+        return find_noted_in::<FEW_ROWS, FEW_ROWS, FEW_ROWS>(view, call, noted);
     }
-    to_note_in::<MAX_QUEUED, MAX_DROPPED, MARKS>(view, call, noted);
+    find_noted_in::<MAX_QUEUED, MAX_DROPPED, MARKS>(view, call, noted);
 }
 
 // Whether a link hands back some of its rows of the queue, which stand together. Its time is that of one pass over the links.
-fn is_handed_back(view: &View, call: &Call, rows: &[u16], starts: &[usize; STARTS]) -> bool
+fn some_handed_back(view: &View, call: &Call, rows: &[u16], starts: &[usize; STARTS]) -> bool
     requires rest { AtRest (shown view.now) }
     requires mine { (l : ℕ) → l < length (shown view.now).links → Apart rows.now starts.now l × Mine (shown view.now) (shown view.now).queue l (part rows.now starts.now l) }
     ensures { result ≡ false → add_batches (held_then call.now.instant.0 (shown view.now)) (dispatch_batches (rooms_of call.now (shown view.now)) (queued_peers (shown view.now).queue) (per_message (shown view.now).settings.max_message_size) (shown view.now).queue) (shown view.now).dropped ≡ (shown view.now).dropped }
@@ -227,7 +245,7 @@ fn is_handed_back(view: &View, call: &Call, rows: &[u16], starts: &[usize; START
 
 // The same, where the queue has at most `QUEUE` rows and the record at most `RECORD`. `FOUND` is for how many rows there is place of those that are found in the message
 // cache: all places are used where it is a power of two. The record is passed over only where something is handed back.
-fn to_note_in<const QUEUE: usize, const RECORD: usize, const FOUND: usize>(
+fn find_noted_in<const QUEUE: usize, const RECORD: usize, const FOUND: usize>(
     view: &View,
     call: &Call,
     noted: &mut ArrayVec<u16, MAX_DROPPED>,
@@ -243,11 +261,12 @@ fn to_note_in<const QUEUE: usize, const RECORD: usize, const FOUND: usize>(
 {
     let mut queue_rows = [0u16; QUEUE];
     let queue = group(view.queue_links(), &mut queue_rows);
-    if !is_handed_back(view, call, &queue_rows, &queue) {
+    if !some_handed_back(view, call, &queue_rows, &queue) {
         return;
     }
     let mut record_rows = [0u16; RECORD];
     let record = group(view.record_links(), &mut record_rows);
+    let multiplier = multiplier(view);
     let mut marks = [0u8; MARKS];
     let mut found = [0u16; FOUND];
     let per_message = per_message(view);
@@ -258,6 +277,7 @@ fn to_note_in<const QUEUE: usize, const RECORD: usize, const FOUND: usize>(
             let recorded = link_rows(&record_rows, &record, link);
             let back = HandedBack {
                 instant: call.instant,
+                multiplier,
                 link,
                 recorded,
                 rows: &queued[taken..],

@@ -59,4 +59,4 @@ cached-sound h xs sound o =
 -- the tables hold the state's cache
 pub cached_stands : (t : TimeBoundCache) (h : Head) (xs : List ℕ) → t ≡ cached_cache h → Sound h xs → StandsIn t xs (state_of h xs).cache
 cached_stands t h xs e s =
-    subst (λ (u : TimeBoundCache). StandsIn u xs (state_of h xs).cache) (sym e) (record { lies = cached-lies h xs s.fit; value = as_value (cached_of (table (limits_of h.limits) 6 xs)); same = cached-as h xs s.fit; sound = cached-sound h xs s })
+    subst (λ (u : TimeBoundCache). StandsIn u xs (state_of h xs).cache) (sym e) (record { lies = cached-lies h xs s.fit; room = cached-room h xs s.fit; value = as_value (cached_of (table (limits_of h.limits) 6 xs)); same = cached-as h xs s.fit; sound = cached-sound h xs s })

@@ -12,11 +12,11 @@ use Rattle.block.specs.declared.head.Head.{Head}
 use Rattle.block.proofs.Tables.{field_in}
 use Rattle.block.proofs.RowLaws.{part_in}
 use Rattle.block.specs.Caches.CachedReads.{cached_at, row_of}
-use Rattle.block.specs.Contents.Starts.{start_of, len_of}
+use Rattle.block.specs.declared.caches.contents.Extent.{Extent}
+use Rattle.block.specs.Contents.Starts.{start_of, len_of, ExtentIs}
 use Rattle.block.proofs.CachesLaws.CacheLaws.{refs-in}
 use Rattle.block.proofs.CachesLaws.CachedLaws.{count-cached}
 use Rattle.block.proofs.ContentsLaws.RowsAdjoin.{chain-at, chain-of}
-use Rattle.block.proofs.ContentsLaws.Shifts.{start-in, len-in}
 
 module _ (h : Head) (xs : List ℕ) (sound : Sound h xs) (i : ℕ) (b : i < length (state_of h xs).cache.entries) where
   abbrev l : Limits
@@ -60,21 +60,21 @@ module _ (h : Head) (xs : List ℕ) (sound : Sound h xs) (i : ℕ) (b : i < leng
   value_in = ap (λ (e : Entry (Timed Cached)). e.value.value) (get_or-map-in (entry_of (cached_of (table l 6 xs)) rs) es i (entry 0 (record { expires = 0; value = record { content = []; round = 0 } })) (ref 0 []) (omega (arith, entry-below, length-refs 4 n (table l 4 xs))))
 
   -- start and length, read from the row that the entry names
-  module _ (k a s c : ℕ) (ek : k ≡ row_of h xs i) (ea : a ≡ place l 5) (es : s ≡ le_nat (part (a + 48 * k + 40) 4 xs)) (ec : c ≡ le_nat (part (a + 48 * k + 44) 4 xs)) where
-    same-start : s ≡ start_of x
-    same-start = es ∙ (λ j. le_nat (part (ea j + 48 * (ek ∙ p-same) j + 40) 4 xs)) ∙ sym (start-in l m xs (omega (arith, sound.fit.within.cached_rows)) p p-below)
+  module _ (k : ℕ) (ek : k ≡ row_of h xs i) (e : Extent) (is : ExtentIs (row_at rs k) e) where
+    same-start : e.start ≡ start_of x
+    same-start = is.start ∙ (λ j. start_of (row_at rs ((ek ∙ p-same) j)))
 
-    same-length : c ≡ len_of x
-    same-length = ec ∙ (λ j. le_nat (part (ea j + 48 * (ek ∙ p-same) j + 44) 4 xs)) ∙ sym (len-in l m xs (omega (arith, sound.fit.within.cached_rows)) p p-below)
+    same-length : e.len ≡ len_of x
+    same-length = is.len ∙ (λ j. len_of (row_at rs ((ek ∙ p-same) j)))
 
-    pub content-ends : s + c ≤ h.live.contents
+    pub content-ends : e.start + e.len ≤ h.live.contents
     content-ends = omega (arith, same-start, same-length, (chain-at (chain-of h xs sound) p (omega (arith, p-below, length-expiry_rows 48 m (table l 5 xs)))).1)
 
-    pub content-is : (z : ℕ) → z ≡ place l 6 → part (z + s) c xs ≡ (cached_at (state_of h xs) i).content
+    pub content-is : (z : ℕ) → z ≡ place l 6 → part (z + e.start) e.len xs ≡ (cached_at (state_of h xs) i).content
     unfolding cached_of content_of
     content-is z ez =
-        ap (λ (o : ℕ). part (o + s) c xs) ez
-        ∙ sym (part_in l 6 s c xs (lit< tt) (omega (arith, content-ends, sound.fit.within.contents)))
+        ap (λ (o : ℕ). part (o + e.start) e.len xs) ez
+        ∙ sym (part_in l 6 e.start e.len xs (lit< tt) (omega (arith, content-ends, sound.fit.within.contents)))
         ∙ (λ j. part (same-start j) (same-length j) (table l 6 xs))
         ∙ sym (ap (λ (v : Cached). v.content) value_in)
 

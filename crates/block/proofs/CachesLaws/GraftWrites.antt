@@ -1,6 +1,6 @@
--- A write of the `first` or the `kept` of a grafted message: the value that its bytes then hold, and what the write does to the state.
+-- A write of the senders of a grafted message, or of its list: the value that its bytes then hold, and what the write does to the state.
 -- Assumes nothing.
-use Rattle.block.proofs.Words.{Option, Some, None, ◌≡◌, refl, sym, ap, ◌∙◌, subst, List, [], ◌∷◌, map, ℕ, zero, suc, ◌+◌, ◌*◌, ◌^◌, ◌≤◌, ◌<◌, arith, lit<, ltb, eqb, length, take, drop, get_or, set, length-append, take_all, drop_at, take-append-le, Map, Entry, entry, cases, le_nat, le_bytes, length-le_bytes, le_nat-le_bytes, length_part, length-put, part-put, part-part, get_d_part, part-before, part-after, get_or-put-before, get_or-put-after, drop-put, put-put-next, put-drop, set-put, Ref, ref, refs, ref-at, length-refs, Timed, Cache, ExpiryRow, row_at, value_bytes, refs_at, rows_at, cache_at, read_as, Lies, OnlyTwo, ref_at, TimeBoundCache, own-stored, own-written, own-sound, Limits, State, Grafts, with_grafted}
+use Rattle.block.proofs.Words.{Option, Some, None, ◌≡◌, refl, sym, ap, ◌∙◌, subst, List, [], ◌∷◌, map, ℕ, zero, suc, ◌+◌, ◌*◌, ◌≤◌, ◌<◌, arith, lit<, ltb, eqb, length, drop, take_all, Map, Entry, entry, cases, le_nat, length_part, length-put, part-put, part-part, get_d_part, part-before, drop-put, put-drop, Ref, ref, refs, ref-at, length-refs, Timed, Cache, ExpiryRow, row_at, value_bytes, refs_at, rows_at, cache_at, read_as, Lies, OnlyTwo, ref_at, TimeBoundCache, own-stored, own-written, own-sound, Limits, State, Hop, Grafts, with_grafted}
 use Rattle.std.proofs.Common.{length-drop}
 use Rattle.storage.specs.Lists.Map.{lookup, insert}
 use Rattle.storage.specs.Rows.Part.{part, put}
@@ -13,86 +13,44 @@ use Rattle.block.specs.Layout.{place, table}
 use Rattle.block.specs.View.{state_of, limits_of, half_at, flag_of, only_if, hops_in, round_of, grafts_of, grafted_in}
 use Rattle.block.specs.Sound.{Numbered, Sound}
 use Rattle.block.specs.Becomes.{Becomes}
+use Rattle.block.specs.MissingSteps.{hop}
 use Rattle.block.specs.declared.head.Head.{Head}
 use Rattle.block.proofs.Tables.{length-table}
 use Rattle.block.specs.TimeCaches.{grafted_cache}
 use Rattle.block.specs.Caches.InBlock.{InOrder}
-use Rattle.block.specs.Caches.GraftSteps.{grafted_at, grafts_at, first_at, kept_at, first_bytes, kept_bytes}
+use Rattle.block.specs.Caches.GraftSteps.{grafted_at, grafts_at, senders_in, senders_to}
 use Rattle.block.proofs.CachesLaws.CacheLaws.{as_value, cache-in, refs-in, rows_in}
 use Rattle.block.proofs.CachesLaws.GraftedLaws.{peers_of, EachOwn, Listed, to-own, grafted-lies, grafted-sound, grafted-state, grafted-laid, grafted-as}
 use Rattle.block.proofs.CachesLaws.GraftLaws.{entry-below, grafted-entry}
 
--- how long a `first` and a `kept` are
-pub length-first : (p r : ℕ) → length (first_bytes p r) ≡ 11
-length-first p r = omega (arith, length-append (le_bytes 8 p) (le_bytes 2 r), length-le_bytes 8 p, length-le_bytes 2 r)
-
-pub length-kept : (p : ℕ) → length (kept_bytes p) ≡ 9
-length-kept p = omega (arith, length-le_bytes 8 p)
+-- the first bytes of what follows a place say its senders
+pub senders-front : (own : List ℕ) → senders_in (part 0 20 own) ≡ senders_in own
+unfolding field_of half_at
+senders-front own = λ k. (
+  only_if (flag_of (get_d_part 0 20 0 0 own (omega arith) k)) (hop (le_nat (part-part 1 8 0 20 own (omega arith) k)) (le_nat (part-part 9 2 0 20 own (omega arith) k))),
+  only_if (flag_of (get_d_part 0 20 11 0 own (omega arith) k)) (le_nat (part-part 12 8 0 20 own (omega arith) k)),
+)
 
 module _ (ps own rest : List ℕ) (long : length own ≡ 117) where
   abbrev old : Grafts
   old = grafts_of ps own rest
 
-  pub first-value : (p r : ℕ) → p < 256 ^ 8 → r < 256 ^ 2
-      → grafts_of ps (put 0 (first_bytes p r) own) rest ≡ record { first = Some (record { peer = p; round = r }); kept = old.kept; peers = old.peers }
-  unfolding grafts_of field_of half_at part
-  first-value p r hp hr =
-      let bs : List ℕ = first_bytes p r in
-      let new : List ℕ = put 0 bs own in
-      let lb : length bs ≡ 11 = length-first p r in
-      let all : part 0 11 new ≡ bs = part-put 0 11 bs own lb (omega arith) in
-      let b0 : get_or new 0 0 ≡ 1 = sym (get_d_part 0 11 0 0 new (omega arith)) ∙ ap (λ (z : List ℕ). get_or z 0 0) all in
-      let f1 : part 1 8 new ≡ le_bytes 8 p = sym (part-part 1 8 0 11 new (omega arith)) ∙ ap (part 1 8) all ∙ take-append-le 8 (le_bytes 8 p) (le_bytes 2 r) (omega (arith, length-le_bytes 8 p)) ∙ take_all 8 (le_bytes 8 p) (omega (arith, length-le_bytes 8 p)) in
-      let h9 : part 9 2 new ≡ le_bytes 2 r = sym (part-part 9 2 0 11 new (omega arith)) ∙ ap (part 9 2) all ∙ ap (take 2) (drop_at (le_bytes 8 p) (le_bytes 2 r) 8 (length-le_bytes 8 p)) ∙ take_all 2 (le_bytes 2 r) (omega (arith, length-le_bytes 2 r)) in
-      let b11 : get_or new 11 0 ≡ get_or own 11 0 = get_or-put-after 0 11 0 bs own (omega arith) (omega arith) in
-      let f12 : part 12 8 new ≡ part 12 8 own = part-after 12 8 0 bs own (omega arith) (omega arith) in
-      let d20 : drop 20 new ≡ drop 20 own = drop-put 20 0 bs own (omega arith) (omega arith) in
-      λ z. record {
-        first = only_if (flag_of (b0 z)) (record { peer = (ap le_nat f1 ∙ le_nat-le_bytes 8 p hp) z; round = (ap le_nat h9 ∙ le_nat-le_bytes 2 r hr) z });
-        kept = only_if (flag_of (b11 z)) (le_nat (f12 z));
-        peers = hops_in (round_of ps) (d20 z);
-      }
-
-  pub kept-value : (p : ℕ) → p < 256 ^ 8 → grafts_of ps (put 11 (kept_bytes p) own) rest ≡ record { first = old.first; kept = Some p; peers = old.peers }
-  unfolding grafts_of field_of half_at part
-  kept-value p hp =
-      let bs : List ℕ = kept_bytes p in
-      let new : List ℕ = put 11 bs own in
-      let lb : length bs ≡ 9 = length-kept p in
-      let all : part 11 9 new ≡ bs = part-put 11 9 bs own lb (omega arith) in
-      let b0 : get_or new 0 0 ≡ get_or own 0 0 = get_or-put-before 11 0 0 bs own (omega arith) (omega arith) in
-      let f1 : part 1 8 new ≡ part 1 8 own = part-before 1 8 11 bs own (omega arith) (omega arith) in
-      let h9 : part 9 2 new ≡ part 9 2 own = part-before 9 2 11 bs own (omega arith) (omega arith) in
-      let b11 : get_or new 11 0 ≡ 1 = sym (get_d_part 11 9 0 0 new (omega arith)) ∙ ap (λ (z : List ℕ). get_or z 0 0) all in
-      let f12 : part 12 8 new ≡ le_bytes 8 p = sym (part-part 1 8 11 9 new (omega arith)) ∙ ap (part 1 8) all ∙ take_all 8 (le_bytes 8 p) (omega (arith, length-le_bytes 8 p)) in
-      let d20 : drop 20 new ≡ drop 20 own = drop-put 20 11 bs own (omega arith) (omega arith) in
-      λ z. record {
-        first = only_if (flag_of (b0 z)) (record { peer = le_nat (f1 z); round = le_nat (h9 z) });
-        kept = only_if (flag_of (b11 z)) ((ap le_nat f12 ∙ le_nat-le_bytes 8 p hp) z);
-        peers = hops_in (round_of ps) (d20 z);
-      }
-
-  pub peers-value : (list : List ℕ) → length list ≡ 97 → grafts_of ps (put 20 list own) rest ≡ record { first = old.first; kept = old.kept; peers = hops_in (round_of ps) list }
-  unfolding grafts_of field_of half_at part
-  peers-value list e =
-      let new : List ℕ = put 20 list own in
-      let ln : length new ≡ 117 = length-put 20 list own (omega arith) ∙ long in
-      let b0 : get_or new 0 0 ≡ get_or own 0 0 = get_or-put-before 20 0 0 list own (omega arith) (omega arith) in
-      let f1 : part 1 8 new ≡ part 1 8 own = part-before 1 8 20 list own (omega arith) (omega arith) in
-      let h9 : part 9 2 new ≡ part 9 2 own = part-before 9 2 20 list own (omega arith) (omega arith) in
-      let b11 : get_or new 11 0 ≡ get_or own 11 0 = get_or-put-before 20 11 0 list own (omega arith) (omega arith) in
-      let f12 : part 12 8 new ≡ part 12 8 own = part-before 12 8 20 list own (omega arith) (omega arith) in
-      let d20 : drop 20 new ≡ list = sym (take_all 97 (drop 20 new) (omega (arith, length-drop 20 new, ln))) ∙ part-put 20 97 list own e (omega arith) in
-      λ z. record {
-        first = only_if (flag_of (b0 z)) (record { peer = le_nat (f1 z); round = le_nat (h9 z) });
-        kept = only_if (flag_of (b11 z)) (le_nat (f12 z));
-        peers = hops_in (round_of ps) (d20 z);
-      }
-
   pub list_put : (list : List ℕ) → length list ≡ 97 → drop 20 (put 20 list own) ≡ list
   unfolding part
   list_put list e =
       sym (take_all 97 (drop 20 (put 20 list own)) (omega (arith, length-drop 20 (put 20 list own), length-put 20 list own (omega arith)))) ∙ part-put 20 97 list own e (omega arith)
+
+  pub senders-value : (bs : List ℕ) → length bs ≡ 20 → grafts_of ps (put 0 bs own) rest ≡ record { first = (senders_in bs).0; kept = (senders_in bs).1; peers = old.peers }
+  unfolding grafts_of
+  senders-value bs e =
+      let same : senders_in (put 0 bs own) ≡ senders_in bs = sym (senders-front (put 0 bs own)) ∙ ap senders_in (part-put 0 20 bs own e (omega arith)) in
+      λ z. record { first = (same z).0; kept = (same z).1; peers = hops_in (round_of ps) (drop-put 20 0 bs own (omega arith) (omega arith) z) }
+
+  pub peers-value : (list : List ℕ) → length list ≡ 97 → grafts_of ps (put 20 list own) rest ≡ record { first = old.first; kept = old.kept; peers = hops_in (round_of ps) list }
+  unfolding grafts_of
+  peers-value list e =
+      let same : senders_in (put 20 list own) ≡ senders_in own = sym (senders-front (put 20 list own)) ∙ ap senders_in (part-before 0 20 20 list own (omega arith) (omega arith)) ∙ senders-front own in
+      λ z. record { first = (same z).0; kept = (same z).1; peers = hops_in (round_of ps) (list_put list e z) }
 
 -- another value, read from the bytes
 module _ {A B : Type 0} (f : A → B) where
@@ -246,51 +204,17 @@ module _ (h : Head) (xs : List ℕ) (sound : Sound h xs) (order : InOrder (state
         sound = grafted-laid h xs ys sound n m (119 * (l.G + 1)) 0 (omega arith) (omega arith) ys-long only sound.fit.within.grafted sound.fit.within.grafted_rows (own-sound c xs s i q lies o bs (omega arith)) (lists listed);
       }
 
--- the stores of a `first` and of a `kept`, as bytes
-module _ (xs : List ℕ) (a p : ℕ) (w : a + 119 ≤ length xs) where
-  pub first-stored : (rd : ℕ) → put (a + 11) (le_bytes 2 rd) (put (a + 3) (le_bytes 8 p) (set xs (a + 2) 1)) ≡ put (a + 2) (first_bytes p rd) xs
-  first-stored rd =
-      let l8 : length (le_bytes 8 p) ≡ 8 = length-le_bytes 8 p in
-      let l2 : length (le_bytes 2 rd) ≡ 2 = length-le_bytes 2 rd in
-      ap (λ (zs : List ℕ). put (a + 11) (le_bytes 2 rd) (put (a + 3) (le_bytes 8 p) zs)) (set-put (a + 2) 1 xs (omega arith))
-      ∙ ap (put (a + 11) (le_bytes 2 rd)) (put-put-next (a + 2) (a + 3) (1 ∷ []) (le_bytes 8 p) xs (omega arith) (omega (arith, l8)))
-      ∙ put-put-next (a + 2) (a + 11) (1 ∷ le_bytes 8 p) (le_bytes 2 rd) xs (omega (arith, l8)) (omega (arith, l2))
-
-  pub kept-stored : put (a + 14) (le_bytes 8 p) (set xs (a + 13) 1) ≡ put (a + 13) (kept_bytes p) xs
-  kept-stored =
-      ap (put (a + 14) (le_bytes 8 p)) (set-put (a + 13) 1 xs (omega arith))
-      ∙ put-put-next (a + 13) (a + 14) (1 ∷ []) (le_bytes 8 p) xs (omega arith) (omega (arith, length-le_bytes 8 p))
-
--- as steps of the state
-module _ (h : Head) (xs : List ℕ) (sound : Sound h xs) (order : InOrder (state_of h xs).grafted) (i : ℕ) (there : i < length (state_of h xs).grafted.entries) (a p : ℕ) (at : a ≡ place (limits_of h.limits) 7 + 119 * i) (hp : p < 256 ^ 8) where
-  abbrev lim : Limits
-  lim = limits_of h.limits
-
-  pub first_goes : (rd : ℕ) → rd < 256 ^ 2 → Becomes (first_at i p rd) h xs h (put (a + 2) (first_bytes p rd) xs)
-  first_goes rd hr =
-      let bs : List ℕ = first_bytes p rd in
-      let w : 0 + length bs ≤ 117 = omega (arith, length-first p rd) in
-      let e : a + 2 ≡ place lim 7 + (i * 119 + (2 + 0)) = omega (arith, at) in
-      let g : Grafts = record { first = Some (record { peer = p; round = rd }); kept = (grafts_at (state_of h xs) i).kept; peers = (grafts_at (state_of h xs) i).peers } in
+-- the store of other senders
+module _ (h : Head) (xs : List ℕ) (sound : Sound h xs) (order : InOrder (state_of h xs).grafted) (i : ℕ) (there : i < length (state_of h xs).grafted.entries) where
+  pub senders-goes : (bs : List ℕ) (p : Option Hop × Option ℕ) → length bs ≡ 20 → senders_in bs ≡ p → Becomes (senders_to i p) h xs h (put (place (limits_of h.limits) 7 + (i * 119 + 2)) bs xs)
+  senders-goes bs p long e =
+      let w : 0 + length bs ≤ 117 = omega arith in
       let same : grafts_at (state_of h xs) i ≡ grafts_of (peers_of h xs) (r h xs sound order i there 0 bs w).own (x h xs sound order i there 0 bs w).rest =
       ap (λ (y : Entry (Timed Grafts)). y.value.value) (entry-same h xs sound order i there 0 bs w) in
-      let go = own-goes h xs sound order i there 0 bs w (list-kept h xs sound order i there 0 bs w (omega (arith, length-first p rd))) g
-      (first-value (peers_of h xs) (r h xs sound order i there 0 bs w).own (x h xs sound order i there 0 bs w).rest (own-long h xs sound order i there 0 bs w) p rd hp hr
-      ∙ (λ z. record { first = Some (record { peer = p; round = rd }); kept = (sym same z).kept; peers = (sym same z).peers })) in
-      subst (Becomes (first_at i p rd) h xs h) (ap (λ (b : ℕ). put b bs xs) (sym e)) (record { state = go.state; sound = go.sound })
-
-  pub kept_goes : Becomes (kept_at i p) h xs h (put (a + 13) (kept_bytes p) xs)
-  kept_goes =
-      let bs : List ℕ = kept_bytes p in
-      let w : 11 + length bs ≤ 117 = omega (arith, length-kept p) in
-      let e : a + 13 ≡ place lim 7 + (i * 119 + (2 + 11)) = omega (arith, at) in
-      let g : Grafts = record { first = (grafts_at (state_of h xs) i).first; kept = Some p; peers = (grafts_at (state_of h xs) i).peers } in
-      let same : grafts_at (state_of h xs) i ≡ grafts_of (peers_of h xs) (r h xs sound order i there 11 bs w).own (x h xs sound order i there 11 bs w).rest =
-      ap (λ (y : Entry (Timed Grafts)). y.value.value) (entry-same h xs sound order i there 11 bs w) in
-      let go = own-goes h xs sound order i there 11 bs w (list-kept h xs sound order i there 11 bs w (omega (arith, length-kept p))) g
-      (kept-value (peers_of h xs) (r h xs sound order i there 11 bs w).own (x h xs sound order i there 11 bs w).rest (own-long h xs sound order i there 11 bs w) p hp
-      ∙ (λ z. record { first = (sym same z).first; kept = Some p; peers = (sym same z).peers })) in
-      subst (Becomes (kept_at i p) h xs h) (ap (λ (b : ℕ). put b bs xs) (sym e)) (record { state = go.state; sound = go.sound })
+      let go = own-goes h xs sound order i there 0 bs w (list-kept h xs sound order i there 0 bs w (omega (arith, long))) (record { first = p.0; kept = p.1; peers = (grafts_at (state_of h xs) i).peers })
+      (senders-value (peers_of h xs) (r h xs sound order i there 0 bs w).own (x h xs sound order i there 0 bs w).rest (own-long h xs sound order i there 0 bs w) bs long
+      ∙ (λ z. record { first = (e z).0; kept = (e z).1; peers = (sym same z).peers })) in
+      record { state = go.state; sound = go.sound }
 
 -- the store of another list of peers
 module _ (h : Head) (xs : List ℕ) (sound : Sound h xs) (order : InOrder (state_of h xs).grafted) (i : ℕ) (there : i < length (state_of h xs).grafted.entries) where

@@ -90,7 +90,7 @@ grafted-sound h xs sound o =
 -- the tables hold the state's cache
 pub grafted_stands : (t : TimeBoundCache) (h : Head) (xs : List ℕ) → t ≡ grafted_cache h → Sound h xs → StandsIn t xs (state_of h xs).grafted
 grafted_stands t h xs e s =
-    subst (λ (u : TimeBoundCache). StandsIn u xs (state_of h xs).grafted) (sym e) (record { lies = grafted-lies h xs s.fit; value = as_value (grafts_of (peers_of h xs)); same = grafted-as h xs s.fit; sound = grafted-sound h xs s })
+    subst (λ (u : TimeBoundCache). StandsIn u xs (state_of h xs).grafted) (sym e) (record { lies = grafted-lies h xs s.fit; room = grafted-room h xs s.fit; value = as_value (grafts_of (peers_of h xs)); same = grafted-as h xs s.fit; sound = grafted-sound h xs s })
 
 -- other rows in the two tables
 module _ (h : Head) (xs ys : List ℕ) (sound : Sound h xs) (n' m' k g : ℕ) where

@@ -53,7 +53,7 @@ received-sound h xs sound o =
 -- the tables hold the state's cache
 pub received_stands : (t : TimeBoundCache) (h : Head) (xs : List ℕ) → t ≡ received_cache h → Sound h xs → StandsIn t xs (state_of h xs).received
 received_stands t h xs e s =
-    subst (λ (u : TimeBoundCache). StandsIn u xs (state_of h xs).received) (sym e) (record { lies = received-lies h xs s.fit; value = as_value nothing_of; same = received_as h xs s.fit; sound = received-sound h xs s })
+    subst (λ (u : TimeBoundCache). StandsIn u xs (state_of h xs).received) (sym e) (record { lies = received-lies h xs s.fit; room = received-room h xs s.fit; value = as_value nothing_of; same = received_as h xs s.fit; sound = received-sound h xs s })
 
 -- other rows in the two tables
 module _ (h : Head) (xs ys : List ℕ) (sound : Sound h xs) (n' m' k g : ℕ) where

@@ -1,6 +1,6 @@
 -- `expire_until` of the message cache: what the two tables leave to do, and the contents moved to the front of their table.
 -- Assumes nothing.
-use Rattle.block.proofs.Words.{◌≡◌, refl, sym, ap, ◌∙◌, subst, true, List, [], map, ℕ, ◌+◌, ◌-◌, ◌*◌, ◌≤◌, ◌<◌, arith, lit<, length, drop, get_or, set, ascending, part, put, rows, length_part, Ref, refs, places, Below, Cache, expire_until, ExpiryRow, row_at, named, cache_of, cache_at, refs_at, rows_at, Expires, TimeBoundCache, length-expiry_rows, keys-named, Limits, Cached, with_cache}
+use Rattle.block.proofs.Words.{◌≡◌, refl, sym, ap, ◌∙◌, subst, true, List, [], ℕ, ◌+◌, ◌-◌, ◌*◌, ◌≤◌, ◌<◌, arith, lit<, length, drop, get_or, set, ascending, part, put, rows, length_part, Ref, refs, places, Below, Cache, expire_until, ExpiryRow, row_at, named, cache_of, cache_at, refs_at, rows_at, Expires, TimeBoundCache, length-expiry_rows, keys-named, Limits, Cached, with_cache}
 use Rattle.std.proofs.Common.{length-drop}
 use Rattle.storage.specs.Refs.Refs.{left}
 use Rattle.time_cache.specs.Tables.{expiry_rows}
@@ -17,9 +17,9 @@ use Rattle.block.proofs.RowLaws.{part_in}
 use Rattle.block.specs.TimeCaches.{cache_from, cached_cache}
 use Rattle.block.specs.Caches.InBlock.{InOrder}
 use Rattle.block.proofs.CachesLaws.CacheLaws.{refs-in, rows_in, frame-pair, expired-in}
-use Rattle.block.specs.Contents.Starts.{start_of, len_of, first_start, RowsAdjoin, shifted_row, Above}
+use Rattle.block.specs.Contents.Starts.{start_of, len_of, first_start, RowsAdjoin, Along, Above}
 use Rattle.block.specs.Contents.CacheSteps.{cached_left, Others, Ahead, Shifts}
-use Rattle.block.proofs.ContentsLaws.RowsAdjoin.{Along, along-at, along-map, chain-along, chain-at, chain-ends, chain-drop, chain-above, to-adjoin, wide_rows, chain-of}
+use Rattle.block.proofs.ContentsLaws.RowsAdjoin.{along-at, chain-along, chain-at, chain-ends, chain-drop, chain-above, to-adjoin, chain-of}
 use Rattle.block.proofs.ContentsLaws.Contents.{part_moved, cache-same, left-held}
 
 -- the other tables, out of what is asked of all
@@ -113,14 +113,9 @@ module _ (h : Head) (xs : List ℕ) (ahead : Ahead h xs) where
 
   module _ (ys : List ℕ) (len : length ys ≡ length xs)
       (framed : tables l ys ≡ set (set (tables l xs) 6 (put 0 (part a (u - a) s) s)) 5 (table l 5 ys))
-      (rows-now : expiry_rows 48 m (table l 5 ys) ≡ map (shifted_row 0 a) rs) where
+      (along : Along 0 a rs (expiry_rows 48 m (table l 5 ys))) where
     within : u ≤ l.B
     within = ahead.fit.within.contents
-
-    along : Along 0 a rs (expiry_rows 48 m (table l 5 ys))
-    along =
-        subst (Along 0 a rs) (sym rows-now)
-        (along-map 0 a (wide_rows m (table l 5 xs) (omega (arith, ahead.fit.within.cached_rows, length-table l 5 xs (lit< tt) ahead.fit.long))) ahead.chain (omega arith) (omega (arith, within, ahead.fit.ceilings.B)))
 
     moves : (p : ℕ) → p < length rs → part (start_of (row_at (expiry_rows 48 m (table l 5 ys)) p)) (len_of (row_at rs p)) (put 0 (part a (u - a) s) s) ≡ part (start_of (row_at rs p)) (len_of (row_at rs p)) s
     moves p hp =
@@ -167,7 +162,7 @@ module _ (h : Head) (xs : List ℕ) (ahead : Ahead h xs) where
     close-fit = record { ceilings = ahead.fit.ceilings; within = ahead.fit.within; long = omega (arith, len, ahead.fit.long) }
 
     pub close-above : Above 0 r (drop 0 (expiry_rows 48 m (table l 5 ws)))
-    close-above = subst (Above 0 r) (sym rows-kept) (chain-above 0 r ahead.chain (omega (arith, er)))
+    close-above = subst (Above 0 r) (sym rows-kept) (chain-above 0 r ahead.chain (omega (arith, er)) (omega (arith, ahead.fit.within.contents, ahead.fit.ceilings.B)))
 
     pub close-shifts : (ys : List ℕ) → length ys ≡ length ws → Shifts h 0 0 r ws ys → Becomes (λ t. t) h xs (with_cached_counts n m (u - r) h) ys
     close-shifts ys ly sh =
@@ -175,7 +170,8 @@ module _ (h : Head) (xs : List ℕ) (ahead : Ahead h xs) where
         subst (λ (k : ℕ). Becomes (λ t. t) h xs (with_cached_counts n m k h) ys) w
         (close-goes ys (ly ∙ len)
         (sh.tables ∙ ap (λ (t : List (List ℕ)). set t 5 (table l 5 ys)) tables-moved)
-        (sh.rows ∙ (λ k. map (shifted_row 0 (er k)) (rows-kept k))))
+        (subst (λ (z : List ExpiryRow). Along 0 a z (expiry_rows 48 m (table l 5 ys))) rows-kept
+        (subst (Along 0 a (expiry_rows 48 m (table l 5 ws))) (sym sh.rows) (subst (λ (k : ℕ). Along 0 k (expiry_rows 48 m (table l 5 ws)) sh.later) er sh.along))))
 
 -- what `expire_until` of the two tables leaves
 pub record ExpiredAhead (h : Head) (xs : List ℕ) (t : ℕ) (g : Head) (ys : List ℕ) : Type 0 where

@@ -8,9 +8,9 @@ use Rattle.storage.specs.Refs.Refs.{left}
 use Rattle.time_cache.specs.Tables.{named, cache_of}
 use Rattle.block.specs.View.{half_at, content_of, cached_of}
 use Rattle.block.specs.Sound.{held}
-use Rattle.block.specs.Contents.Starts.{start_of, len_of, first_start, RowsAdjoin}
+use Rattle.block.specs.Contents.Starts.{start_of, len_of, first_start, RowsAdjoin, Along}
 use Rattle.block.proofs.ContentsLaws.Sums.{sums, from, up_to, sum-all, from-up_to, sums-rows, sums-drop, sum_left, sum-places}
-use Rattle.block.proofs.ContentsLaws.RowsAdjoin.{Along, along-at, along-expiry, chain-at, chain-total, chain-drop}
+use Rattle.block.proofs.ContentsLaws.RowsAdjoin.{along-at, along-expiry, chain-at, chain-total, chain-drop}
 
 -- a part of what was moved
 pub part_moved : (to from n b k : ℕ) (xs : List ℕ) → b + k ≤ n → from + n ≤ length xs → to + n ≤ length xs → part (to + b) k (put to (part from n xs) xs) ≡ part (from + b) k xs

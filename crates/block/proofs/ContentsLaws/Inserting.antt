@@ -14,15 +14,13 @@ use Rattle.block.specs.Becomes.{Becomes}
 use Rattle.block.specs.Heads.{with_cached_counts}
 use Rattle.block.specs.declared.head.Head.{Head}
 use Rattle.block.proofs.Tables.{frame, length-table}
-use Rattle.block.proofs.RowLaws.{frame-two}
 use Rattle.block.specs.TimeCaches.{cache_from, cached_cache}
 use Rattle.block.specs.Caches.InBlock.{AtMost}
 use Rattle.block.proofs.CachesLaws.CacheLaws.{refs-in, rows_in, frame-pair, inserted-in, count_entries, count-expiry}
 use Rattle.block.proofs.CachesLaws.CachedLaws.{cached-lies}
-use Rattle.block.specs.Contents.Starts.{start_of, len_of, first_start, RowsAdjoin, with_start, with_len}
-use Rattle.block.specs.Contents.CacheSteps.{message, cached_also, cached_rows, empty_in, Others}
-use Rattle.block.proofs.ContentsLaws.RowsAdjoin.{chain-ends, chain-drop, chain-gap, start-set, len-set, len-start, wide_rows, chain-of}
-use Rattle.block.proofs.ContentsLaws.Shifts.{store-start}
+use Rattle.block.specs.Contents.Starts.{start_of, len_of, first_start, RowsAdjoin, with_rest}
+use Rattle.block.specs.Contents.CacheSteps.{message, cached_also, cached_rows, Emptied, Others}
+use Rattle.block.proofs.ContentsLaws.RowsAdjoin.{chain-ends, chain-drop, chain-gap, rest-start, rest-len, chain-of}
 use Rattle.block.proofs.ContentsLaws.Closing.{others-of, cached-state, cached-laid}
 
 -- how many entries there are when a key was put in does not hang on its value
@@ -153,19 +151,22 @@ module _ (h : Head) (xs : List ℕ) (sound : Sound h xs) (id round t : ℕ) (r :
   pub next_start : (s : ℕ) → s ≡ first_start u (drop (j + 1) (cached_rows new_head ys)) → s ≡ first_start u (drop j rs)
   next_start s es = es ∙ ap (λ (z : List ExpiryRow). first_start u (drop (j + 1) z)) rows-now ∙ ap (first_start u) (drop-gap j g rs (omega (arith, x.row, lrs)))
 
+  pub start-few : (s : ℕ) → s ≡ first_start u (drop j rs) → s ≤ u
+  start-few s es = omega (arith, es, chain-ends (chain-drop (chain-of h xs sound) j))
+
   -- start, length and round are stored
-  module _ (s : ℕ) (es : s ≡ first_start u (drop j rs)) (hr : round < 65536) where
-    y1 : List ℕ
-    y1 = put (place l 5 + (j * 48 + 40)) (le_bytes 4 s) ys
+  module _ (s : ℕ) (es : s ≡ first_start u (drop j rs)) (hr : round < 65536) (zs : List ℕ) (emptied : Emptied new_head i j s round ys zs) where
+    abbrev bs : List ℕ
+    bs = emptied.bytes
 
     y2 : List ℕ
-    y2 = put (place l 5 + (j * 48 + 44)) (le_bytes 4 0) y1
+    y2 = put (place l 5 + (j * 48 + 40)) bs ys
 
     y3 : List ℕ
-    y3 = empty_in new_head i j s round ys
+    y3 = put (place l 4 + (i * 4 + 2)) (le_bytes 2 round) y2
 
     x3 : List ℕ
-    x3 = put (j * 48 + 44) (le_bytes 4 0) (put (j * 48 + 40) (le_bytes 4 s) (table l 5 ys))
+    x3 = put (j * 48 + 40) bs (table l 5 ys)
 
     e3 : List ℕ
     e3 = put (i * 4 + 2) (le_bytes 2 round) (table l 4 ys)
@@ -173,42 +174,32 @@ module _ (h : Head) (xs : List ℕ) (sound : Sound h xs) (id round t : ℕ) (r :
     chain : RowsAdjoin 0 rs u
     chain = chain-of h xs sound
 
-    low : s ≤ u
-    low = omega (arith, es, chain-ends (chain-drop chain j))
-
     long : end l ≤ length ys
     long = fit-in.long
 
-    w40 : j * 48 + 40 + length (le_bytes 4 s) ≤ 48 * (2 * l.C + 1)
-    w40 = omega (arith, length-le_bytes 4 s, row_in, hm)
-
-    w44 : j * 48 + 44 + length (le_bytes 4 0) ≤ 48 * (2 * l.C + 1)
-    w44 = omega (arith, length-le_bytes 4 0, row_in, hm)
+    w40 : j * 48 + 40 + length bs ≤ 48 * (2 * l.C + 1)
+    w40 = omega (arith, emptied.long, row_in, hm)
 
     w2 : i * 4 + 2 + length (le_bytes 2 round) ≤ 4 * (l.C + 1)
     w2 = omega (arith, length-le_bytes 2 round, entry_in, hn)
 
-    l1 : length y1 ≡ length ys
-    unfolding y1
-    l1 = length-put (place l 5 + (j * 48 + 40)) (le_bytes 4 s) ys (omega (arith, w40, long))
-
     l2 : length y2 ≡ length ys
     unfolding y2
-    l2 = length-put (place l 5 + (j * 48 + 44)) (le_bytes 4 0) y1 (omega (arith, w44, long, l1)) ∙ l1
+    l2 = length-put (place l 5 + (j * 48 + 40)) bs ys (omega (arith, w40, long))
 
     l3 : length y3 ≡ length ys
-    unfolding y1 y2 y3
+    unfolding y2 y3
     l3 = length-put (place l 4 + (i * 4 + 2)) (le_bytes 2 round) y2 (omega (arith, w2, long, l2)) ∙ l2
 
     tables-2 : tables l y2 ≡ set (tables l ys) 5 x3
-    unfolding y1 y2 x3
-    tables-2 = frame-two l 5 (j * 48 + 40) (j * 48 + 44) (le_bytes 4 s) (le_bytes 4 0) ys (lit< tt) w40 w44 long
+    unfolding y2 x3
+    tables-2 = frame l 5 (j * 48 + 40) bs ys (lit< tt) w40 long
 
     four-2 : table l 4 y2 ≡ table l 4 ys
     four-2 = ap (λ (z : List (List ℕ)). get_or z 4 []) tables-2
 
     tables-3 : tables l y3 ≡ set (set (set (tables l xs) 6 store) 5 x3) 4 e3
-    unfolding y1 y2 y3 e3
+    unfolding y2 y3 e3
     tables-3 =
         frame l 4 (i * 4 + 2) (le_bytes 2 round) y2 (lit< tt) w2 (omega (arith, l2, long))
         ∙ (λ k. set (tables-2 k) 4 (put (i * 4 + 2) (le_bytes 2 round) (four-2 k)))
@@ -225,49 +216,33 @@ module _ (h : Head) (xs : List ℕ) (sound : Sound h xs) (id round t : ℕ) (r :
     fit_at zs q = record { ceilings = fit-in.ceilings; within = fit-in.within; long = omega (arith, q, long) }
 
     fresh : Fresh (cache_at (cached_cache h) xs) id t c' y3 i j
-    unfolding y1 y2 y3
+    unfolding y2 y3
     fresh =
         let f0 : Fresh (cache_at (cached_cache h) xs) id t c' ys i j = subst (λ (c : TimeBoundCache). Fresh (cache_at (cached_cache h) xs) id t c ys i j) sized (fresh_start (cached_cache h) id t xs r ys x) in
-        let f1 : Fresh (cache_at (cached_cache h) xs) id t c' y1 i j = fresh-rest (cache_at (cached_cache h) xs) id t c' ys i j f0 (cached-lies new_head ys fit-in) 0 (le_bytes 4 s) (omega (arith, length-le_bytes 4 s)) in
-        let f2 : Fresh (cache_at (cached_cache h) xs) id t c' y2 i j = fresh-rest (cache_at (cached_cache h) xs) id t c' y1 i j f1 (cached-lies new_head y1 (fit_at y1 l1)) 4 (le_bytes 4 0) (omega (arith, length-le_bytes 4 0)) in
+        let f2 : Fresh (cache_at (cached_cache h) xs) id t c' y2 i j = fresh-rest (cache_at (cached_cache h) xs) id t c' ys i j f0 (cached-lies new_head ys fit-in) 0 bs (omega (arith, emptied.long)) in
         fresh-own (cache_at (cached_cache h) xs) id t c' y2 i j f2 (cached-lies new_head y2 (fit_at y2 l2)) 0 (le_bytes 2 round) (omega (arith, length-le_bytes 2 round))
 
     -- the row
     abbrev new : ExpiryRow
-    new = with_len 0 (with_start s g)
+    new = with_rest bs g
 
     lj : length (take j rs) ≡ j
     lj = length-take-le j rs (omega (arith, x.row, lrs))
 
-    wide : length g.rest ≡ 8
-    wide =
-        let q : row_at (cached_rows new_head ys) j ≡ g = ap (λ (z : List ExpiryRow). row_at z j) rows-now ∙ get_or_at (take j rs) g (drop j rs) no_row j lj in
-        sym (ap (λ (z : ExpiryRow). length z.rest) q)
-        ∙ wide_rows m' (table l 5 ys) (omega (arith, wm', length-table l 5 ys (lit< tt) long)) j (omega (arith, row_in, length-expiry_rows 48 m' (table l 5 ys)))
-
-    wide-2 : length (with_start s g).rest ≡ 8
-    wide-2 = length-put 0 (le_bytes 4 s) g.rest (omega (arith, length-le_bytes 4 s, wide)) ∙ wide
-
     new-len : len_of new ≡ 0
-    new-len = len-set 0 (with_start s g) (omega (arith, wide-2)) (omega arith)
+    new-len = rest-len bs emptied.long s 0 emptied.holds g
 
     new-start : start_of new ≡ s
-    new-start = len-start 0 (with_start s g) (omega (arith, wide-2)) ∙ start-set s g (omega (arith, wide)) (omega (arith, low, sound.fit.within.contents, sound.fit.ceilings.B))
+    new-start = rest-start bs emptied.long s 0 emptied.holds g
 
     rows-3 : expiry_rows 48 m' x3 ≡ take j rs ++ (new ∷ drop j rs)
     unfolding x3
     rows-3 =
         let x1 : List ℕ = table l 5 ys in
-        let x2 : List ℕ = put (j * 48 + 40) (le_bytes 4 s) x1 in
-        let r1 : m' * 48 ≤ length x1 = omega (arith, wm', length-table l 5 ys (lit< tt) long) in
-        let r2 : m' * 48 ≤ length x2 = omega (arith, r1, length-put (j * 48 + 40) (le_bytes 4 s) x1 (omega (arith, w40, length-table l 5 ys (lit< tt) long))) in
         let a1 : row_at (expiry_rows 48 m' x1) j ≡ g = ap (λ (z : List ExpiryRow). row_at z j) rows-now ∙ get_or_at (take j rs) g (drop j rs) no_row j lj in
-        let q2 : expiry_rows 48 m' x2 ≡ take j rs ++ (with_start s g ∷ drop j rs) =
-        store-start m' j s x1 row_in r1 ∙ (λ k. put j (with_start s (a1 k) ∷ []) (rows-now k)) ∙ put-gap j g (with_start s g) (take j rs) (drop j rs) lj in
-        let a2 : row_at (expiry_rows 48 m' x2) j ≡ with_start s g = ap (λ (z : List ExpiryRow). row_at z j) q2 ∙ get_or_at (take j rs) (with_start s g) (drop j rs) no_row j lj in
-        rest-stored 48 m' j 4 (le_bytes 4 0) x2 (omega (arith, length-le_bytes 4 0)) row_in r2
-        ∙ (λ k. put j (with_len 0 (a2 k) ∷ []) (q2 k))
-        ∙ put-gap j (with_start s g) new (take j rs) (drop j rs) lj
+        rest-stored 48 m' j 0 bs x1 (omega (arith, emptied.long)) row_in (omega (arith, wm', length-table l 5 ys (lit< tt) long))
+        ∙ (λ k. put j (with_rest bs (a1 k) ∷ []) (rows-now k))
+        ∙ put-gap j g new (take j rs) (drop j rs) lj
 
     -- what the entry holds
     own-wide : (k : ℕ) (z : List ℕ) → k * 4 ≤ length z → i < k → length (ref_at (refs 4 k z) i).own ≡ 2
@@ -311,12 +286,12 @@ module _ (h : Head) (xs : List ℕ) (sound : Sound h xs) (id round t : ℕ) (r :
         ∙ inserted-in l 4 4 n 5 48 m xs y3 (lit< tt) wn (lit< tt) wm n' m' wn' wm' (cached_of store) id t (held_at c' i j y3) fresh.cache
         ∙ ap (λ (v : Cached). put_in id v t (cache_in (cached_of store) 4 n (table l 4 xs) 48 m (table l 5 xs))) value-is
 
-    pub empty-goes : held (put_in id (message [] round) t (state_of h xs).cache).entries ≡ held (state_of h xs).cache.entries → (zs : List ℕ) → zs ≡ empty_in new_head i j s round ys → Becomes (cached_also id [] round t) h xs new_head zs
-    unfolding y3 state_of
-    empty-goes used zs q =
+    pub empty-goes : held (put_in id (message [] round) t (state_of h xs).cache).entries ≡ held (state_of h xs).cache.entries → Becomes (cached_also id [] round t) h xs new_head zs
+    unfolding y2 y3 state_of
+    empty-goes used =
         let others : Others h (tables l xs) = others-of h (tables l xs) sound.laid in
         let below : Below m' (places (refs 4 n' e3)) = subst (λ (z : List Ref). Below m' (places z)) (refs-in l 4 4 n' 5 48 m' y3 (lit< tt) wn' (lit< tt) wm' ∙ ap (refs 4 n') four) fresh.sound.below in
-        subst (λ (z : List ℕ). Becomes (cached_also id [] round t) h xs new_head z) (sym q)
+        subst (λ (z : List ℕ). Becomes (cached_also id [] round t) h xs new_head z) (sym emptied.put)
         (record {
           state = cached-state h xs y3 sound.fit others n' m' u e3 x3 store tables-3 ∙ ap (λ (c : Cache Cached). with_cache c (state_of h xs)) all;
           sound = cached-laid h xs y3 sound.fit others n' m' u e3 x3 store tables-3 (fit_at y3 l3) below

@@ -9,8 +9,8 @@ use Rattle.time_cache.specs.TimeCache.{value_of, get, with_value, replace}
 use Rattle.time_cache.specs.Tables.{named, cache_of}
 use Rattle.block.specs.View.{half_at, content_of, cached_of}
 use Rattle.block.specs.Contents.CacheSteps.{refill_with, refill}
-use Rattle.block.specs.Contents.Starts.{start_of, len_of, RowsAdjoin, with_len, shifted_row}
-use Rattle.block.proofs.ContentsLaws.RowsAdjoin.{Along, along-at, along-expiry, along-map, chain-at, chain-order, chain-drop, chain_next, chain-resize, len-set, len-start, Wide, wide-drop}
+use Rattle.block.specs.Contents.Starts.{start_of, len_of, RowsAdjoin, Along}
+use Rattle.block.proofs.ContentsLaws.RowsAdjoin.{along-at, along-expiry, chain-at, chain-order, chain-resize}
 use Rattle.block.proofs.ContentsLaws.Contents.{part_moved, place-low}
 
 -- an element of a list that was changed at i
@@ -136,8 +136,9 @@ split_at p [] h = absurd (omega arith)
 split_at zero (x ∷ xs) h = refl
 split_at (suc p) (x ∷ xs) h = ap (λ (l : List ExpiryRow). x ∷ l) (split_at p xs (omega arith))
 
-module _ (s content : List ℕ) (xs : List ExpiryRow) (u p : ℕ) (c : RowsAdjoin 0 xs u) (hp : p < length xs) (w : Wide xs)
-    (room : u + length content ≤ length s + len_of (row_at xs p)) (us : u ≤ length s) (small : length s ≤ 1048576) where
+module _ (s content : List ℕ) (xs : List ExpiryRow) (u p : ℕ) (c : RowsAdjoin 0 xs u) (hp : p < length xs)
+    (room : u + length content ≤ length s + len_of (row_at xs p)) (us : u ≤ length s) (y : ExpiryRow) (zs : List ExpiryRow) (y-expiry : expiry_of y ≡ expiry_of (row_at xs p))
+    (y-start : start_of y ≡ start_of (row_at xs p)) (y-len : len_of y ≡ length content) (along : Along (length content) (len_of (row_at xs p)) (drop (suc p) xs) zs) where
   abbrev x : ExpiryRow
   x = row_at xs p
 
@@ -153,12 +154,6 @@ module _ (s content : List ℕ) (xs : List ExpiryRow) (u p : ℕ) (c : RowsAdjoi
   abbrev n : ℕ
   n = u - a - o
 
-  abbrev zs : List ExpiryRow
-  zs = map (shifted_row k o) (drop (suc p) xs)
-
-  abbrev y : ExpiryRow
-  y = with_len k x
-
   abbrev pub rows_then : List ExpiryRow
   rows_then = take p xs ++ (y ∷ zs)
 
@@ -171,9 +166,6 @@ module _ (s content : List ℕ) (xs : List ExpiryRow) (u p : ℕ) (c : RowsAdjoi
   ends : a + o ≤ u
   ends = (chain-at c p hp).1
 
-  wide : length x.rest ≡ 8
-  wide = w p hp
-
   ln : length (part (a + o) n s) ≡ n
   ln = length_part (a + o) n s (omega (arith, ends, us))
 
@@ -183,22 +175,13 @@ module _ (s content : List ℕ) (xs : List ExpiryRow) (u p : ℕ) (c : RowsAdjoi
   lp : length (take p xs) ≡ p
   lp = length-take-le p xs (omega arith)
 
-  y-len : len_of y ≡ k
-  y-len = len-set k x (omega (arith, wide)) (omega (arith, room, ends, us, small))
-
-  y-start : start_of y ≡ a
-  y-start = len-start k x (omega (arith, wide))
-
-  along : Along k o (drop (suc p) xs) zs
-  along = along-map k o (wide-drop (suc p) xs w) (chain-drop c (suc p)) (omega (arith, chain_next c p hp)) (omega (arith, room, ends, us, small))
-
   pub chain-then : (e : ℕ) → e + o ≡ u + k → RowsAdjoin 0 rows_then e
   chain-then e t = chain-resize e p y zs c hp along y-start y-len refl t
 
   pub expiry-then : map expiry_of rows_then ≡ map expiry_of xs
   expiry-then =
       map-append expiry_of (take p xs) (y ∷ zs)
-      ∙ (λ j. map expiry_of (take p xs) ++ (expiry_of x ∷ along-expiry along j))
+      ∙ (λ j. map expiry_of (take p xs) ++ (y-expiry j ∷ along-expiry along j))
       ∙ sym (map-append expiry_of (take p xs) (x ∷ drop (suc p) xs))
       ∙ ap (map expiry_of) (split_at p xs hp)
 

@@ -1,15 +1,16 @@
 -- Rows whose contents stand one after the other.
 -- Assumes nothing.
-use Rattle.block.proofs.Words.{◌≡◌, refl, sym, ap, ◌∙◌, subst, Bool, true, eqb, eqb-true, eq-eqb, List, [], ◌∷◌, ◌++◌, map, ℕ, zero, suc, ◌+◌, ◌-◌, ◌*◌, ◌≤◌, ◌<◌, arith, length, take, drop, drop-drop, and_left, and_right, and_intro, le_nat, le_bytes, rows, part-put, part-before, part-after, length_part, length-le_bytes, le_nat-le_bytes, row-end, ExpiryRow, expiry_of, row_at, no_row, row-at, length-expiry_rows}
-use Rattle.std.proofs.Common.{length-drop, get_or-drop}
+use Rattle.block.proofs.Words.{◌≡◌, refl, sym, ap, ◌∙◌, subst, Bool, true, eqb, eqb-true, eq-eqb, List, [], ◌∷◌, ◌++◌, map, ℕ, zero, suc, ◌+◌, ◌≤◌, ◌<◌, arith, length, take, drop, drop-drop, and_left, and_right, and_intro, le_nat, rows, take-append-le, Expiry, ExpiryRow, expiry_of, row_at, no_row, ◌⊎◌, inl, inr, tri, length-put, get_or-put-before, get_or-put-after, put-get_or-same}
+use Rattle.std.proofs.Common.{length-drop}
 use Rattle.storage.specs.Lists.Base.{sum}
-use Rattle.storage.specs.Rows.Part.{part}
+use Rattle.std.proofs.lemmas.List.{drop-append-le}
+use Rattle.storage.specs.Rows.Part.{part, put}
 use Rattle.time_cache.specs.Tables.{expiry_row_of, expiry_rows}
 use Rattle.block.specs.Layout.{table}
 use Rattle.block.specs.View.{four_at, limits_of}
 use Rattle.block.specs.Sound.{adjoin, Sound}
 use Rattle.block.specs.declared.head.Head.{Head}
-use Rattle.block.specs.Contents.Starts.{start_of, len_of, first_start, RowsAdjoin, done, next, with_start, with_len, shifted_row, Above}
+use Rattle.block.specs.Contents.Starts.{start_of, len_of, extent_in, first_start, RowsAdjoin, done, next, with_rest, Along, none, more, Above}
 use Rattle.block.specs.Contents.CacheSteps.{cached_rows}
 
 -- start and length in the bytes of a row
@@ -22,27 +23,27 @@ unfolding expiry_row_of four_at part
 len-bytes row = ap (λ (z : List ℕ). le_nat (take 4 z)) (drop-drop 4 40 row)
 
 -- the first of rows that adjoin, and those behind it
-adjoin_first : (a : ℕ) (row : List ℕ) (more : List (List ℕ)) (e : ℕ) → adjoin a (row ∷ more) e ≡ true → (four_at 40 row ≡ a) × (adjoin (a + four_at 44 row) more e ≡ true)
+adjoin_first : (a : ℕ) (row : List ℕ) (behind : List (List ℕ)) (e : ℕ) → adjoin a (row ∷ behind) e ≡ true → (four_at 40 row ≡ a) × (adjoin (a + four_at 44 row) behind e ≡ true)
 unfolding adjoin
-adjoin_first a row more e h =
+adjoin_first a row behind e h =
     let here : Bool = eqb (four_at 40 row) a in
-    let rest : Bool = adjoin (a + four_at 44 row) more e in
+    let rest : Bool = adjoin (a + four_at 44 row) behind e in
     (eqb-true (four_at 40 row) a (and_left here rest h), and_right here rest h)
 
 pub of-adjoin : (a : ℕ) (rs : List (List ℕ)) (e : ℕ) → adjoin a rs e ≡ true → RowsAdjoin a (map expiry_row_of rs) e
 unfolding adjoin
 of-adjoin a [] e h = subst (RowsAdjoin a []) (eqb-true a e h) done
-of-adjoin a (row ∷ more) e h =
-    let t = adjoin_first a row more e h in
-    next (expiry_row_of row) (map expiry_row_of more) (start-bytes row ∙ t.0)
-    (subst (λ (b : ℕ). RowsAdjoin (a + b) (map expiry_row_of more) e) (sym (len-bytes row)) (of-adjoin (a + four_at 44 row) more e t.1))
+of-adjoin a (row ∷ behind) e h =
+    let t = adjoin_first a row behind e h in
+    next (expiry_row_of row) (map expiry_row_of behind) (start-bytes row ∙ t.0)
+    (subst (λ (b : ℕ). RowsAdjoin (a + b) (map expiry_row_of behind) e) (sym (len-bytes row)) (of-adjoin (a + four_at 44 row) behind e t.1))
 
 pub to-adjoin : (a e : ℕ) (rs : List (List ℕ)) → RowsAdjoin a (map expiry_row_of rs) e → adjoin a rs e ≡ true
 unfolding adjoin
 to-adjoin a e [] done = eq-eqb a a refl
-to-adjoin a e (row ∷ more) (next x xs s c) =
+to-adjoin a e (row ∷ behind) (next x xs s c) =
     and_intro (eq-eqb (four_at 40 row) a (sym (start-bytes row) ∙ s))
-    (to-adjoin (a + four_at 44 row) e more (subst (λ (b : ℕ). RowsAdjoin (a + b) (map expiry_row_of more) e) (len-bytes row) c))
+    (to-adjoin (a + four_at 44 row) e behind (subst (λ (b : ℕ). RowsAdjoin (a + b) (map expiry_row_of behind) e) (len-bytes row) c))
 
 pub chain-ends : {a e : ℕ} {xs : List ExpiryRow} → RowsAdjoin a xs e → a ≤ e
 chain-ends done = omega arith
@@ -70,11 +71,6 @@ pub chain_first : {a e : ℕ} {xs : List ExpiryRow} → RowsAdjoin a xs e → fi
 chain_first done = refl
 chain_first (next x xs s c) = s
 
--- the same rows, with starts that went up and then down
-pub data Along (up down : ℕ) : List ExpiryRow → List ExpiryRow → Type 0 where
-  none : Along up down [] []
-  more : (x y : ExpiryRow) (xs ys : List ExpiryRow) → y.time ≡ x.time → y.key ≡ x.key → start_of y + down ≡ start_of x + up → len_of y ≡ len_of x → Along up down xs ys → Along up down (x ∷ xs) (y ∷ ys)
-
 chain_head : {a e : ℕ} {x : ExpiryRow} {xs : List ExpiryRow} → RowsAdjoin a (x ∷ xs) e → (start_of x ≡ a) × RowsAdjoin (a + len_of x) xs e
 chain_head (next x xs s c) = (s, c)
 
@@ -98,38 +94,8 @@ pub along-expiry : {up down : ℕ} {xs ys : List ExpiryRow} → Along up down xs
 along-expiry none = refl
 along-expiry (more x y xs ys t k s l r) = λ i. record { time = t i; key = k i } ∷ along-expiry r i
 
--- another start, in bytes
-pub start-set : (v : ℕ) (x : ExpiryRow) → 4 ≤ length x.rest → v < 4294967296 → start_of (with_start v x) ≡ v
-unfolding four_at
-start-set v x h w = ap le_nat (part-put 0 4 (le_bytes 4 v) x.rest (length-le_bytes 4 v) (omega arith)) ∙ le_nat-le_bytes 4 v w
-
-pub start-len : (v : ℕ) (x : ExpiryRow) → len_of (with_start v x) ≡ len_of x
-unfolding four_at
-start-len v x = ap le_nat (part-after 4 4 0 (le_bytes 4 v) x.rest (omega (arith, length-le_bytes 4 v)) (omega arith))
-
--- start and length have their bytes in every row
-abbrev pub Wide : List ExpiryRow → Type 0
-Wide xs = (i : ℕ) → i < length xs → length (row_at xs i).rest ≡ 8
-
-pub wide_rows : (m : ℕ) (x : List ℕ) → m * 48 ≤ length x → Wide (expiry_rows 48 m x)
-unfolding expiry_row_of
-wide_rows m x h i l =
-    let q : i < m = omega (arith, length-expiry_rows 48 m x) in
-    ap (λ (y : ExpiryRow). length y.rest) (row-at 48 m i x q)
-    ∙ length-drop 40 (part (i * 48) 48 x)
-    ∙ ap (λ (n : ℕ). n - 40) (length_part (i * 48) 48 x (omega (arith, row-end 48 m i q)))
-
-pub along-map : (up down : ℕ) {a e : ℕ} {xs : List ExpiryRow} → Wide xs → RowsAdjoin a xs e → down ≤ a + up → e + up < 4294967296 → Along up down xs (map (shifted_row up down) xs)
-along-map up down w done h g = none
-along-map up down w (next x xs s c) h g =
-    let v : ℕ = start_of x + up - down in
-    let b : v < 4294967296 = omega (arith, s, chain-ends c) in
-    more x (shifted_row up down x) xs (map (shifted_row up down) xs) refl refl
-    (omega (arith, start-set v x (omega (arith, w 0 (omega arith))) b, s)) (start-len v x)
-    (along-map up down (λ i l. w (suc i) (omega arith)) c (omega arith) g)
-
-pub chain-above : (up down : ℕ) {a e : ℕ} {xs : List ExpiryRow} → RowsAdjoin a xs e → down ≤ a + up → Above up down xs
-chain-above up down c h = record { above = λ i l. omega (arith, (chain-at c i l).0) }
+pub chain-above : (up down : ℕ) {a e : ℕ} {xs : List ExpiryRow} → RowsAdjoin a xs e → down ≤ a + up → e + up < 4294967296 → Above up down xs
+chain-above up down c h g = record { above = λ i l. omega (arith, (chain-at c i l).0); below = λ i l. omega (arith, (chain-at c i l).1) }
 
 -- a row ends where or before a later row starts
 pub chain-order : {a e : ℕ} {xs : List ExpiryRow} → RowsAdjoin a xs e → (q p : ℕ) → q < p → p < length xs → start_of (row_at xs q) + len_of (row_at xs q) ≤ start_of (row_at xs p)
@@ -152,18 +118,56 @@ chain-gap {a} (suc j) y done s l = next {a = a} {e = a} y [] s (subst (λ (b : �
 chain-gap {a} {e} zero y (next x xs sx c) s l = next {a = a} {e = e} y (x ∷ xs) (s ∙ sx) (subst (λ (b : ℕ). RowsAdjoin b (x ∷ xs) e) (omega (arith, l)) (next {a = a} {e = e} x xs sx c))
 chain-gap {a} {e} (suc j) y (next x xs sx c) s l = next {a = a} {e = e} x (take j xs ++ (y ∷ drop j xs)) sx (chain-gap {a = a + len_of x} {e = e} j y c s l)
 
--- another length, in bytes
-pub len-set : (v : ℕ) (x : ExpiryRow) → 8 ≤ length x.rest → v < 4294967296 → len_of (with_len v x) ≡ v
-unfolding four_at
-len-set v x h w = ap le_nat (part-put 4 4 (le_bytes 4 v) x.rest (length-le_bytes 4 v) (omega arith)) ∙ le_nat-le_bytes 4 v w
+-- a row whose start went up and then down
+abbrev pub Moved : ℕ → ℕ → ExpiryRow → ExpiryRow → Type 0
+Moved up down x y = (expiry_of y ≡ expiry_of x) × (start_of y + down ≡ start_of x + up) × (len_of y ≡ len_of x)
 
-pub len-start : (v : ℕ) (x : ExpiryRow) → 4 ≤ length x.rest → start_of (with_len v x) ≡ start_of x
-unfolding four_at
-len-start v x h = ap le_nat (part-before 0 4 4 (le_bytes 4 v) x.rest (omega arith) (omega arith))
+along-of : (up down : ℕ) (xs ys : List ExpiryRow) → length ys ≡ length xs → ((p : ℕ) → p < length xs → Moved up down (row_at xs p) (row_at ys p)) → Along up down xs ys
+along-of up down [] [] e f = none
+along-of up down [] (y ∷ ys) e f = absurd (omega (arith, e))
+along-of up down (x ∷ xs) [] e f = absurd (omega (arith, e))
+along-of up down (x ∷ xs) (y ∷ ys) e f =
+    let r = f 0 (omega arith) in
+    more x y xs ys (ap (λ (t : Expiry). t.time) r.0) (ap (λ (t : Expiry). t.key) r.0) r.1 r.2 (along-of up down xs ys (omega (arith, e)) (λ p l. f (suc p) (omega arith)))
 
-pub wide-drop : (d : ℕ) (xs : List ExpiryRow) → Wide xs → Wide (drop d xs)
-wide-drop d xs w i h =
-    ap (λ (y : ExpiryRow). length y.rest) (get_or-drop d xs i no_row) ∙ w (d + i) (omega (arith, length-drop d xs))
+-- rows of which the first i have other starts, and the others are as they were
+module _ (up down : ℕ) (xs : List ExpiryRow) where
+  pub record Begun (i : ℕ) (ys : List ExpiryRow) : Type 0 where
+    pub long : length ys ≡ length xs
+    pub moved : (p : ℕ) → p < i → Moved up down (row_at xs p) (row_at ys p)
+    pub left : (p : ℕ) → i ≤ p → row_at ys p ≡ row_at xs p
+
+  pub begun-none : Begun 0 xs
+  begun-none = record { long = refl; moved = λ p h. absurd (omega arith); left = λ p h. refl }
+
+  pub begun-more : (i : ℕ) (ys : List ExpiryRow) (y : ExpiryRow) → Begun i ys → i < length xs → Moved up down (row_at xs i) y → Begun (i + 1) (put i (y ∷ []) ys)
+  begun-more i ys y b h m = record {
+    long = length-put i (y ∷ []) ys (omega (arith, b.long)) ∙ b.long;
+    moved = λ p l. go p (tri p i) l;
+    left = λ p l. get_or-put-after i p no_row (y ∷ []) ys (omega arith) (omega (arith, b.long)) ∙ b.left p (omega arith);
+  }
+    where
+      go : (p : ℕ) → (p < i) ⊎ ((p ≡ i) ⊎ (i < p)) → p < i + 1 → Moved up down (row_at xs p) (row_at (put i (y ∷ []) ys) p)
+      go p (inl q) l = subst (Moved up down (row_at xs p)) (sym (get_or-put-before i p no_row (y ∷ []) ys q (omega (arith, b.long)))) (b.moved p q)
+      go p (inr (inl q)) l = subst (λ (n : ℕ). Moved up down (row_at xs n) (row_at (put i (y ∷ []) ys) n)) (sym q) (subst (Moved up down (row_at xs i)) (sym (put-get_or-same i y no_row ys (omega (arith, b.long)))) m)
+      go p (inr (inr q)) l = absurd (omega arith)
+
+  pub begun-all : (i : ℕ) (ys : List ExpiryRow) → Begun i ys → length xs ≤ i → Along up down xs ys
+  begun-all i ys b h = along-of up down xs ys b.long (λ p l. b.moved p (omega arith))
+
+-- start and length of a row whose bytes behind the identifier are others
+module _ (bs : List ℕ) (l : length bs ≡ 8) (s n : ℕ) (e : extent_in bs ≡ (s, n)) (x : ExpiryRow) where
+  pub rest-start : start_of (with_rest bs x) ≡ s
+  unfolding four_at part put
+  rest-start = ap le_nat (take-append-le 4 bs (drop (length bs) x.rest) (omega (arith, l))) ∙ ap (λ (p : ℕ × ℕ). p.0) e
+
+  pub rest-len : len_of (with_rest bs x) ≡ n
+  unfolding four_at part put
+  rest-len =
+      let z : List ℕ = drop (length bs) x.rest in
+      ap (λ (y : List ℕ). le_nat (take 4 y)) (drop-append-le 4 bs z (omega (arith, l)))
+      ∙ ap le_nat (take-append-le 4 (drop 4 bs) z (omega (arith, l, length-drop 4 bs)))
+      ∙ ap (λ (p : ℕ × ℕ). p.1) e
 
 -- a row starts where the one before it ends
 pub chain_next : {a e : ℕ} {xs : List ExpiryRow} → RowsAdjoin a xs e → (p : ℕ) → p < length xs → first_start e (drop (suc p) xs) ≡ start_of (row_at xs p) + len_of (row_at xs p)

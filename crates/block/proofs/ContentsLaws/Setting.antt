@@ -1,6 +1,6 @@
 -- Another content in row p, out of the stores that make it, and what it is to the state.
 -- Assumes nothing.
-use Rattle.block.proofs.Words.{Option, Some, ◌≡◌, refl, sym, ap, ◌∙◌, subst, true, List, [], ◌∷◌, ◌++◌, map, ℕ, zero, suc, ◌+◌, ◌-◌, ◌*◌, ◌≤◌, ◌<◌, arith, add-one, lit<, length, take, drop, get_or, set, sum, ascending, Map, Entry, entry, keys, lookup, part, le_bytes, Ascending, Here, Between, length_part, length-le_bytes, Ref, ref, refs, places, Below, get_or-map-in, Timed, Cache, ExpiryRow, expiry_rows, row_at, entry_of, ref_at, up_of, length-expiry_rows, insert-here, lookup-here, lookup-between, keys-named, rest-stored, Limits, Cached, with_cache}
+use Rattle.block.proofs.Words.{Option, Some, ◌≡◌, refl, sym, ap, ◌∙◌, subst, true, List, [], ◌∷◌, ◌++◌, ℕ, zero, suc, ◌+◌, ◌-◌, ◌*◌, ◌≤◌, ◌<◌, arith, add-one, lit<, length, take, drop, get_or, set, sum, ascending, Map, Entry, entry, keys, lookup, part, Ascending, Here, Between, length_part, Ref, ref, refs, places, Below, get_or-map-in, Timed, Cache, ExpiryRow, expiry_rows, row_at, entry_of, ref_at, up_of, length-expiry_rows, insert-here, lookup-here, lookup-between, keys-named, rest-stored, Limits, Cached, with_cache}
 use lib.ListN.{length-map}
 use Rattle.storage.specs.Rows.Part.{put}
 use Rattle.time_cache.specs.TimeCache.{value_of, get, with_value, replace}
@@ -11,14 +11,15 @@ use Rattle.block.specs.Fit.{Fit}
 use Rattle.block.specs.Sound.{Sound, held}
 use Rattle.block.specs.Becomes.{Becomes}
 use Rattle.block.specs.Heads.{with_cached_counts}
+use Rattle.block.specs.declared.caches.contents.Extent.{Extent}
 use Rattle.block.specs.declared.head.Head.{Head}
 use Rattle.block.proofs.Tables.{frame, length-table}
 use Rattle.block.specs.Caches.CachedReads.{row_of}
 use Rattle.block.specs.Caches.InBlock.{InOrder}
 use Rattle.block.proofs.CachesLaws.CacheLaws.{refs-in}
-use Rattle.block.specs.Contents.Starts.{start_of, len_of, RowsAdjoin, with_len, shifted_row, Above}
+use Rattle.block.specs.Contents.Starts.{start_of, len_of, RowsAdjoin, with_rest, ExtentPut, Along, Above}
 use Rattle.block.specs.Contents.CacheSteps.{refill_with, refill, refilled, cached_rows, Others, Shifts, Resized}
-use Rattle.block.proofs.ContentsLaws.RowsAdjoin.{chain-at, chain-drop, chain_next, chain-above, wide_rows, chain-of}
+use Rattle.block.proofs.ContentsLaws.RowsAdjoin.{chain-at, chain-drop, chain_next, chain-above, rest-start, rest-len, chain-of}
 use Rattle.block.proofs.ContentsLaws.Contents.{place-low}
 use Rattle.block.proofs.ContentsLaws.Resizing.{no_entry, sum-put, refill-set, rows_then, store_then, chain-then, expiry-then, content-new, content-kept}
 use Rattle.block.proofs.ContentsLaws.Closing.{others-of, move-frame, cached-state, cached-fit, cached-laid}
@@ -110,10 +111,13 @@ module _ (h : Head) (xs content : List ℕ) (p : ℕ) (sound : Sound h xs) (hp :
     above-1 =
         let q : suc p ≡ p + 1 = sym (add-one p) in
         subst (λ (r : List ExpiryRow). Above k len (drop (p + 1) r)) (sym rows-1)
-        (subst (λ (j : ℕ). Above k len (drop j rs)) q (chain-above k len (chain-drop chain (suc p)) (omega (arith, el, chain_next chain p (omega (arith, count))))))
+        (subst (λ (j : ℕ). Above k len (drop j rs)) q (chain-above k len (chain-drop chain (suc p)) (omega (arith, el, chain_next chain p (omega (arith, count)))) (omega (arith, small, sound.fit.within.contents, sound.fit.ceilings.B))))
 
     module _ (vs : List ℕ) (sh : Shifts h (p + 1) k len ws vs) (lv : length vs ≡ length ws) (ts : List ℕ) (wrote : ts ≡ put (e + at) content vs) (lt : length ts ≡ length vs)
-        (b : ℕ) (eb : b ≡ place l 5) (ys : List ℕ) (stored : ys ≡ put (b + 48 * p + 44) (le_bytes 4 k) ts) (ly : length ys ≡ length ts) where
+        (x : Extent) (xa : x.start ≡ at) (xk : x.len ≡ k) (ys : List ℕ) (stored : ExtentPut (place l 5 + (p * 48 + 40)) x ts ys) (ly : length ys ≡ length ts) where
+      abbrev bs : List ℕ
+      bs = stored.bytes
+
       six-2 : table l 6 vs ≡ inner
       six-2 = ap (λ (t : List (List ℕ)). get_or t 6 []) (sh.tables ∙ ap (λ (t : List (List ℕ)). set t 5 (table l 5 vs)) tables-1)
 
@@ -130,29 +134,33 @@ module _ (h : Head) (xs content : List ℕ) (p : ℕ) (sound : Sound h xs) (hp :
       five-3 : table l 5 ts ≡ table l 5 vs
       five-3 = ap (λ (t : List (List ℕ)). get_or t 5 []) tables-3
 
-      tables-4 : tables l ys ≡ set (set (tables l xs) 6 (put a content inner)) 5 (put (p * 48 + 44) (le_bytes 4 k) (table l 5 vs))
+      tables-4 : tables l ys ≡ set (set (tables l xs) 6 (put a content inner)) 5 (put (p * 48 + 40) bs (table l 5 vs))
       tables-4 =
-          let z : b + 48 * p + 44 ≡ place l 5 + (p * 48 + 44) = omega (arith, eb) in
-          ap (tables l) (stored ∙ (λ j. put (z j) (le_bytes 4 k) ts))
-          ∙ frame l 5 (p * 48 + 44) (le_bytes 4 k) ts (lit< tt) (omega (arith, length-le_bytes 4 k, hp, sound.fit.within.cached_rows)) (omega (arith, lt, lv, lw, sound.fit.long))
-          ∙ (λ j. set (tables-3 j) 5 (put (p * 48 + 44) (le_bytes 4 k) (five-3 j)))
+          ap (tables l) stored.put
+          ∙ frame l 5 (p * 48 + 40) bs ts (lit< tt) (omega (arith, stored.long, hp, sound.fit.within.cached_rows)) (omega (arith, lt, lv, lw, sound.fit.long))
+          ∙ (λ j. set (tables-3 j) 5 (put (p * 48 + 40) bs (five-3 j)))
 
       pub resized : Resized h p content xs (with_cached_counts h.live.cached m (u - len + k) h) ys
       resized =
           let q : p + 1 ≡ suc p = add-one p in
-          let zs : List ExpiryRow = map (shifted_row k o) (drop (p + 1) rs) in
-          let rows-2 : cached_rows h vs ≡ take (suc p) rs ++ zs = sh.rows ∙ (λ j. take (q j) (rows-1 j) ++ map (shifted_row k (el j)) (drop (p + 1) (rows-1 j))) in
-          let five-4 : table l 5 ys ≡ put (p * 48 + 44) (le_bytes 4 k) (table l 5 vs) = ap (λ (t : List (List ℕ)). get_or t 5 []) tables-4 in
+          let rows-2 : cached_rows h vs ≡ take (suc p) rs ++ sh.later = sh.rows ∙ (λ j. take (q j) (rows-1 j) ++ sh.later) in
+          let five-4 : table l 5 ys ≡ put (p * 48 + 40) bs (table l 5 vs) = ap (λ (t : List (List ℕ)). get_or t 5 []) tables-4 in
           let six-4 : table l 6 ys ≡ put a content inner = ap (λ (t : List (List ℕ)). get_or t 6 []) tables-4 in
           let room-5 : m * 48 ≤ length (table l 5 vs) = omega (arith, length-table l 5 vs (lit< tt) (omega (arith, lv, lw, sound.fit.long)), sound.fit.within.cached_rows) in
-          let x-2 : row_at (cached_rows h vs) p ≡ row_at rs p = ap (λ (r : List ExpiryRow). row_at r p) rows-2 ∙ take_row p rs zs (omega (arith, count)) in
+          let x-2 : row_at (cached_rows h vs) p ≡ row_at rs p = ap (λ (r : List ExpiryRow). row_at r p) rows-2 ∙ take_row p rs sh.later (omega (arith, count)) in
           record {
             head = ap (λ (j : ℕ). with_cached_counts h.live.cached m (u - j + k) h) el;
+            row = with_rest bs (row_at rs p);
+            expiry = refl;
+            start = rest-start bs stored.long x.start x.len stored.holds (row_at rs p) ∙ xa ∙ ea;
+            len = rest-len bs stored.long x.start x.len stored.holds (row_at rs p) ∙ xk;
+            later = sh.later;
+            along = subst (λ (r : List ExpiryRow). Along k o (drop (p + 1) r) sh.later) rows-1 (subst (λ (j : ℕ). Along k j (drop (p + 1) (cached_rows h ws)) sh.later) el sh.along);
             rows =
                 ap (expiry_rows 48 m) five-4
-                ∙ rest-stored 48 m p 4 (le_bytes 4 k) (table l 5 vs) (omega (arith, length-le_bytes 4 k)) hp room-5
-                ∙ (λ j. put p (with_len k (x-2 j) ∷ []) (rows-2 j))
-                ∙ put-row p (with_len k (row_at rs p)) rs zs (omega (arith, count));
+                ∙ rest-stored 48 m p 0 bs (table l 5 vs) (omega (arith, stored.long)) hp room-5
+                ∙ (λ j. put p (with_rest bs (x-2 j) ∷ []) (rows-2 j))
+                ∙ put-row p (with_rest bs (row_at rs p)) rs sh.later (omega (arith, count));
             store = six-4;
             tables = tables-4 ∙ (λ j. set (set (tables l xs) 6 (sym six-4 j)) 5 (sym five-4 j));
             long = ly ∙ lt ∙ lv ∙ lw;
@@ -247,22 +255,21 @@ module _ (h : Head) (xs content : List ℕ) (id i : ℕ) (sound : Sound h xs) (o
       let q : p + 1 ≡ suc p = add-one p in
       let len : ℕ = len_of (row_at rows p) in
       let e : ℕ = uc - len + length content in
-      let wide = wide_rows mc (table lim 5 xs) (omega (arith, sound.fit.within.cached_rows, length-table lim 5 xs (lit< tt) sound.fit.long)) in
+      let along : Along (length content) len (drop (suc p) rows) z.later = subst (λ (j : ℕ). Along (length content) len (drop j rows) z.later) q z.along in
       let room : uc + length content ≤ length store + len = omega (arith, set_room, long) in
       let us : uc ≤ length store = omega (arith, long, sound.fit.within.contents) in
-      let sm : length store ≤ 1048576 = omega (arith, long, sound.fit.ceilings.B) in
       let ends : len ≤ uc = omega (arith, (chain-at chained p hp).1) in
-      let rows-now : cached_rows h ys ≡ rows_then store content rows uc p chained hp wide room us sm = z.rows ∙ (λ j. take p rows ++ (with_len (length content) (row_at rows p) ∷ map (shifted_row (length content) len) (drop (q j) rows))) in
+      let rows-now : cached_rows h ys ≡ rows_then store content rows uc p chained hp room us z.row z.later z.expiry z.start z.len along = z.rows in
       let x : List ℕ = table lim 5 ys in
       let t : List ℕ = table lim 6 ys in
       let others : Others h (tables lim xs) = others-of h (tables lim xs) sound.laid in
       let framed : tables lim ys ≡ set (set (set (tables lim xs) 6 t) 5 x) 4 (table lim 4 xs) = z.tables in
-      let ex = expiry-then store content rows uc p chained hp wide room us sm in
-      let kept = content-kept store content rows uc p chained hp wide room us sm in
-      let new = content-new store content rows uc p chained hp wide room us sm in
+      let ex = expiry-then store content rows uc p chained hp room us z.row z.later z.expiry z.start z.len along in
+      let kept = content-kept store content rows uc p chained hp room us z.row z.later z.expiry z.start z.len along in
+      let new = content-new store content rows uc p chained hp room us z.row z.later z.expiry z.start z.len along in
       let all : cached_in t nc (table lim 4 xs) mc x ≡ refill id content (state_of h xs).cache =
       (λ j. cache_of (cached_of (z.store j)) es (rows-now j))
-      ∙ refill-set store (store_then store content rows uc p chained hp wide room us sm) rows (rows_then store content rows uc p chained hp wide room us sm) es i p content low names up below ex kept new id here in
+      ∙ refill-set store (store_then store content rows uc p chained hp room us z.row z.later z.expiry z.start z.len along) rows (rows_then store content rows uc p chained hp room us z.row z.later z.expiry z.start z.len along) es i p content low names up below ex kept new id here in
       let used : held (cached_in t nc (table lim 4 xs) mc x).entries ≡ e =
       omega (arith, ap (λ (c : Cache Cached). held c.entries) all, held-refill content (state_of h xs).cache id i order.up hd, old-at, ends, sound.laid.used) in
       subst (λ (g : Head). Becomes (refilled id content) h xs g ys) (sym z.head)
@@ -274,7 +281,7 @@ module _ (h : Head) (xs content : List ℕ) (id i : ℕ) (sound : Sound h xs) (o
             cached-laid h xs ys sound.fit others nc mc e (table lim 4 xs) x t framed
             (cached-fit h xs ys sound.fit others nc mc e (table lim 4 xs) x t framed z.long sound.fit.within.cached sound.fit.within.cached_rows (omega (arith, set_room, ends)))
             sound.laid.cached
-            (subst (λ (r : List ExpiryRow). RowsAdjoin 0 r e) (sym rows-now) (chain-then store content rows uc p chained hp wide room us sm e (omega (arith, ends))))
+            (subst (λ (r : List ExpiryRow). RowsAdjoin 0 r e) (sym rows-now) (chain-then store content rows uc p chained hp room us z.row z.later z.expiry z.start z.len along e (omega (arith, ends))))
             used;
       })
 

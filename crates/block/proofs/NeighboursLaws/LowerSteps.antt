@@ -16,7 +16,7 @@ use Rattle.block.proofs.Tables.{frame, length-table}
 use Rattle.block.proofs.LinkLaws.{count-peers}
 use Rattle.block.proofs.Lent.{lent_at, given_back, lent-table, lent-room, lent-frame, lent-long}
 use Rattle.storage.proofs.RefsLaws.Numbered.{numbered-same}
-use Rattle.block.specs.Neighbours.Lowered.{without_peer, Listed, listed, lower_listed, announced, AllFew, LoweredLinks}
+use Rattle.block.specs.Neighbours.Lowered.{without_peer, Listed, listed, lower_listed, has_announcers, AllFew, LoweredLinks}
 use Rattle.block.proofs.NeighboursLaws.RaisedRows.{few-in}
 use Rattle.block.proofs.NeighboursLaws.LoweredRefs.{below-lowered, places-numbered}
 use Rattle.block.proofs.NeighboursLaws.LoweredTables.{notes-left, missing-left, grafted-left, places-lowered, fine_of, of-fine, fine-lowered, fine-filter, Fine}
@@ -149,7 +149,7 @@ module _ (h : Head) (xs : List ℕ) (sound : Sound h xs) (asc : LinksAscend h xs
       (nq : numbered ref 34 q q1 q2 ≡ lower_all i (numbered ref 34 h.live.queued (T 11) (T 12)))
       (nd : numbered ref 34 d d1 d2 ≡ lower_all i (numbered ref 34 h.live.dropped (T 13) (T 14)))
       (ng : listed 22 119 h.live.grafted g ≡ map (lower_listed i) (listed 22 119 h.live.grafted (T 7)))
-      (nv : listed 32 129 m v ≡ filter announced (map (lower_listed i) (listed 32 129 h.live.missing (T 9)))) where
+      (nv : listed 32 129 m v ≡ filter has_announcers (map (lower_listed i) (listed 32 129 h.live.missing (T 9)))) where
     pub lowered-links : LoweredLinks i h xs (left_head q d m) ys
     unfolding state_of
     lowered-links = record {
@@ -181,7 +181,7 @@ module _ (h : Head) (xs : List ℕ) (sound : Sound h xs) (asc : LinksAscend h xs
             (subst (λ (rs : List Listed). Fine (h.live.links - 1) rs) (sym ng) (fine-lowered i h.live.links hi (listed 22 119 h.live.grafted (T 7)) (fine_of h.live.links 22 119 h.live.grafted (T 7) old.grafts)));
         missing = of-fine (h.live.links - 1) 32 129 m v
             (subst (λ (rs : List Listed). Fine (h.live.links - 1) rs) (sym nv)
-            (fine-filter (h.live.links - 1) announced (map (lower_listed i) (listed 32 129 h.live.missing (T 9)))
+            (fine-filter (h.live.links - 1) has_announcers (map (lower_listed i) (listed 32 129 h.live.missing (T 9)))
             (fine-lowered i h.live.links hi (listed 32 129 h.live.missing (T 9)) (fine_of h.live.links 32 129 h.live.missing (T 9) old.missing))));
         queue = notes-below h.live.queued q (T 11) (T 12) q1 q2 nq old.queue;
         dropped = notes-below h.live.dropped d (T 13) (T 14) d1 d2 nd old.dropped;
@@ -276,7 +276,7 @@ module _ (h : Head) (xs : List ℕ) (sound : Sound h xs) (asc : LinksAscend h xs
         )
 
         module _ (z4 : List ℕ) (m : ℕ) (g4 : length z4 ≡ length (lent_at missing y3))
-            (w4 : (m ≤ h.live.missing) × (listed 32 129 m z4 ≡ filter announced (map (lower_listed i) (listed 32 129 h.live.missing (lent_at missing y3))))) where
+            (w4 : (m ≤ h.live.missing) × (listed 32 129 m z4 ≡ filter has_announcers (map (lower_listed i) (listed 32 129 h.live.missing (lent_at missing y3))))) where
           abbrev y4 : List ℕ
           y4 = given_back missing y3 z4
 
@@ -287,5 +287,5 @@ module _ (h : Head) (xs : List ℕ) (sound : Sound h xs) (asc : LinksAscend h xs
               (lent-frame l1 9 missing y3 (lit< tt) missing-is z4 room3 g4 ∙ ap (λ (ts : List (List ℕ)). set ts 9 z4) f3)
               w1.0 w2.0 w4.0 n1 n2 n3
               (w4.1
-              ∙ ap (λ (bs : List ℕ). filter announced (map (lower_listed i) (listed 32 129 h.live.missing bs)))
+              ∙ ap (λ (bs : List ℕ). filter has_announcers (map (lower_listed i) (listed 32 129 h.live.missing bs)))
               (lent-table l1 9 missing y3 (lit< tt) missing-is ∙ ap (λ (ts : List (List ℕ)). get_or ts 9 []) f3))

@@ -7,7 +7,7 @@ use Rattle.storage.proofs.RefsLaws.Shifts.{done}
 use Rattle.block.specs.View.{byte_at, hops_in}
 use Rattle.block.proofs.Tables.{view-at, view-set, length-view}
 use Rattle.storage.proofs.RefsLaws.Numbered.{length-numbered}
-use Rattle.block.specs.Neighbours.Lowered.{Listed, listed_of, listed, lower_listed, announced}
+use Rattle.block.specs.Neighbours.Lowered.{Listed, listed_of, listed, lower_listed, has_announcers}
 
 -- what stands for a row past the last
 abbrev pub no_listed : Listed
@@ -98,6 +98,6 @@ module _ (i o s n : ℕ) (xs ys : List ℕ) (k : ℕ) (wide : o + 97 ≡ s) (h :
       ∙ done_more (lower_listed i) no_listed (listed o s n xs) k (omega (arith, length-listed o s n xs))
 
 -- the rows whose count is not 0 are those that are still announced
-pub kept-announced : (n r : ℕ) (xs ys : List ℕ) → rows 129 r ys ≡ filter (differs 32 0) (rows 129 n xs) → listed 32 129 r ys ≡ filter announced (listed 32 129 n xs)
+pub kept-announced : (n r : ℕ) (xs ys : List ℕ) → rows 129 r ys ≡ filter (differs 32 0) (rows 129 n xs) → listed 32 129 r ys ≡ filter has_announcers (listed 32 129 n xs)
 unfolding listed listed_of
-kept-announced n r xs ys e = ap (map (listed_of 32)) e ∙ sym (filter_map announced (listed_of 32) (rows 129 n xs))
+kept-announced n r xs ys e = ap (map (listed_of 32)) e ∙ sym (filter_map has_announcers (listed_of 32) (rows 129 n xs))

@@ -1,18 +1,19 @@
 -- What the tables hold after a link went: notes, missing messages, grafted messages.
 -- Assumes nothing.
-use Rattle.block.proofs.Words.{◌≡◌, refl, sym, ap, ◌∙◌, subst, Bool, true, false, not, List, [], ◌∷◌, map, ℕ, zero, suc, ◌+◌, ◌-◌, ◌≤◌, ◌<◌, zero-le, suc-le-suc, le_of_suc-le-suc, not-suc-le-zero, arith, eq-eqb, ne_eqb, eqb, length, take, drop, get_or, drop-drop, take-take, if◌then◌else◌, is_empty, Map, Entry, entry, le_nat, be_nat, rows, Ascending, part-part, drop-take, get_d_part, Ref, ref, places, Below, Timed, ExpiryRow, expiry_rows, expiry_of, entry_of, row_at, Hop, Grafts, without_announcer, without_notes, numbered, lower_all}
+use Rattle.block.proofs.Words.{◌≡◌, refl, sym, ap, ◌∙◌, subst, Bool, true, false, not, List, [], ◌∷◌, map, ℕ, zero, suc, ◌+◌, ◌-◌, ◌≤◌, ◌<◌, zero-le, suc-le-suc, le_of_suc-le-suc, not-suc-le-zero, arith, eq-eqb, ne_eqb, eqb, length, take, drop, get_or, drop-drop, take-take, if◌then◌else◌, is_empty, Map, Entry, entry, le_nat, be_nat, rows, Ascending, drop-take, Ref, ref, places, Below, Timed, ExpiryRow, expiry_rows, expiry_of, entry_of, row_at, Hop, Grafts, without_announcer, without_notes, numbered, lower_all}
 use Rattle.std.proofs.Common.{get_or-drop}
 use mathlib.Core.List.{map-map}
 use Rattle.storage.specs.Lists.Base.{filter}
 use Rattle.storage.specs.Rows.Part.{part}
-use Rattle.storage.specs.Rows.Rows.{field_of}
 use Rattle.storage.specs.Refs.Refs.{ref_of, refs}
 use Rattle.time_cache.specs.Tables.{cache_of}
 use Rattle.protocol.specs.Neighbours.{forget_announcer, without_graft, forget_grafted}
-use Rattle.block.specs.View.{byte_at, half_at, id_at, flag_of, only_if, peer_of, note_of, notes_in, hops_in, hop_of, hops_of, missed_of, missing_in, round_of, grafts_of, grafted_in}
+use Rattle.block.specs.View.{byte_at, id_at, peer_of, note_of, notes_in, hops_in, hop_of, hops_of, missed_of, missing_in, round_of, grafts_of, grafted_in}
 use Rattle.block.specs.Sound.{Numbered, AllNumbered}
+use Rattle.block.specs.Caches.GraftSteps.{senders_in}
+use Rattle.block.proofs.CachesLaws.GraftWrites.{senders-front}
 use Rattle.block.proofs.Each.{Each, each-numbered, numbered-each}
-use Rattle.block.specs.Neighbours.Lowered.{without_peer, Listed, listed_of, listed, lower_listed, announced}
+use Rattle.block.specs.Neighbours.Lowered.{without_peer, Listed, listed_of, listed, lower_listed, has_announcers}
 use Rattle.block.proofs.NeighboursLaws.LoweredLaws.{read_by}
 use Rattle.block.proofs.NeighboursLaws.LoweredRefs.{below-lowered, length-lowered, notes-lowered, hops-lowered, rounds-lowered, places-numbered, numbered-few, numbered-read}
 
@@ -96,27 +97,17 @@ abbrev seen_grafted : List ℕ → List ExpiryRow → Listed → Entry (Timed Gr
 seen_grafted ps es r = entry (row_at es (le_nat (part 0 2 r.head))).key (record {
   expires = (row_at es (le_nat (part 0 2 r.head))).time;
   value = record {
-    first = only_if (flag_of (byte_at 0 (drop 2 r.head))) (record { peer = le_nat (part 1 8 (drop 2 r.head)); round = le_nat (part 9 2 (drop 2 r.head)) });
-    kept = only_if (flag_of (byte_at 11 (drop 2 r.head))) (le_nat (part 12 8 (drop 2 r.head)));
+    first = (senders_in (drop 2 r.head)).0;
+    kept = (senders_in (drop 2 r.head)).1;
     peers = map (read_by (round_of ps)) r.hops;
   };
 })
 
 -- what stands before the list of a row
 module _ (row : List ℕ) where
-  head-own : drop 2 (take 22 row) ≡ part 2 20 row
+  senders-own : senders_in (drop 2 row) ≡ senders_in (drop 2 (take 22 row))
   unfolding part
-  head-own = drop-take 2 20 row
-
-  own-byte : (a : ℕ) → a < 20 → byte_at a (drop 2 row) ≡ byte_at a (drop 2 (take 22 row))
-  own-byte a h = get_or-drop 2 row a 0 ∙ sym (ap (byte_at a) head-own ∙ get_d_part 2 20 a 0 row h)
-
-  in-drop : (a k : ℕ) → part a k (drop 2 row) ≡ part (2 + a) k row
-  unfolding part
-  in-drop a k = ap (take k) (drop-drop a 2 row)
-
-  own-part : (a k : ℕ) → a + k ≤ 20 → part a k (drop 2 row) ≡ part a k (drop 2 (take 22 row))
-  own-part a k h = in-drop a k ∙ sym (ap (part a k) head-own ∙ part-part a k 2 20 row h)
+  senders-own = sym (senders-front (drop 2 row)) ∙ ap senders_in (sym (drop-take 2 20 row))
 
   place-part : part 0 2 row ≡ part 0 2 (take 22 row)
   unfolding part
@@ -126,12 +117,12 @@ module _ (row : List ℕ) where
   list-own = drop-drop 20 2 row
 
 grafted-seen : (ps : List ℕ) (es : List ExpiryRow) (row : List ℕ) → entry_of (grafts_of ps) es (ref_of row) ≡ seen_grafted ps es (listed_of 22 row)
-unfolding ref_of grafts_of field_of half_at listed_of
+unfolding ref_of grafts_of listed_of
 grafted-seen ps es row = λ k. entry (row_at es (le_nat (place-part row k))).key (record {
   expires = (row_at es (le_nat (place-part row k))).time;
   value = record {
-    first = only_if (flag_of (own-byte row 0 (omega arith) k)) (record { peer = le_nat (own-part row 1 8 (omega arith) k); round = le_nat (own-part row 9 2 (omega arith) k) });
-    kept = only_if (flag_of (own-byte row 11 (omega arith) k)) (le_nat (own-part row 12 8 (omega arith) k));
+    first = (senders-own row k).0;
+    kept = (senders-own row k).1;
     peers = (ap (hops_in (round_of ps)) (list-own row) ∙ hops-read (round_of ps) (drop 22 row)) k;
   };
 })
@@ -184,18 +175,18 @@ module _ (i : ℕ) (ps : List ℕ) (up : Ascending ps) (h : i < length ps) where
   missed-step r rs m hs true e f = f
   missed-step r rs m hs false e f = λ k. e k ∷ f k
 
-  missed-lowered : (rs : List Listed) → Fine (length ps) rs → map (seen_missed rest) (filter announced (map (lower_listed i) rs)) ≡ forget_announcer p (map (seen_missed ps) rs)
+  missed-lowered : (rs : List Listed) → Fine (length ps) rs → map (seen_missed rest) (filter has_announcers (map (lower_listed i) rs)) ≡ forget_announcer p (map (seen_missed ps) rs)
   unfolding forget_announcer filter
   missed-lowered [] none = refl
   missed-lowered (r ∷ rs) (more _ _ few le b f) =
       let hs : List Hop = without_announcer p (map (read_by (hop_of ps)) r.hops) in
       let left : map (read_by (hop_of rest)) (lower_all i r.hops) ≡ hs = hops-lowered i ps up h r.hops b in
       let z : eqb (length (lower_all i r.hops)) 0 ≡ is_empty hs = sym (empty-length (read_by (hop_of rest)) (lower_all i r.hops)) ∙ ap is_empty left in
-      missed-step r (filter announced (map (lower_listed i) rs)) (forget_announcer p (map (seen_missed ps) rs)) hs (eqb (length (lower_all i r.hops)) 0)
+      missed-step r (filter has_announcers (map (lower_listed i) rs)) (forget_announcer p (map (seen_missed ps) rs)) hs (eqb (length (lower_all i r.hops)) 0)
       (ap (entry (be_nat (part 0 32 r.head))) left) (missed-lowered rs f)
       ∙ ap (λ (x : Bool). if x then forget_announcer p (map (seen_missed ps) rs) else entry (be_nat (part 0 32 r.head)) hs ∷ forget_announcer p (map (seen_missed ps) rs)) z
 
-  pub missing-left : (n r : ℕ) (xs ys : List ℕ) → listed 32 129 r ys ≡ filter announced (map (lower_listed i) (listed 32 129 n xs)) → AllNumbered (length ps) 32 129 n xs
+  pub missing-left : (n r : ℕ) (xs ys : List ℕ) → listed 32 129 r ys ≡ filter has_announcers (map (lower_listed i) (listed 32 129 n xs)) → AllNumbered (length ps) 32 129 n xs
       → missing_in rest r ys ≡ forget_announcer p (missing_in ps n xs)
   missing-left n r xs ys e a =
       missing-seen rest r ys

@@ -1,18 +1,20 @@
 -- What is read from a grafted message, and the steps on it.
 -- Assumes nothing.
-use Rattle.std.specs.Prelude.{ℕ, ◌<◌, ◌≡◌, true, List, [], ◌∷◌, ◌++◌, length, get_or, Option, Some, None, option_map}
+use Rattle.std.specs.Prelude.{ℕ, ◌<◌, ◌≡◌, true, List, [], length, get_or, Option, Some, None, option_map}
 use Rattle.storage.specs.Lists.Base.{all, ascending}
 use Rattle.storage.specs.Lists.Map.{Map, Entry, entry, keys, lookup, insert}
-use Rattle.storage.specs.Rows.Digits.{le_bytes}
+use Rattle.storage.specs.Rows.Rows.{field_of}
 use Rattle.time_cache.specs.TimeCache.{Timed, get, put, replace}
 use Rattle.protocol.specs.State.{State, Grafts, Hop, with_grafted}
 use Rattle.protocol.specs.Whole.{grafts_whole}
 use Rattle.protocol.specs.Control.{lower, with_graft}
+use Rattle.block.specs.View.{byte_at, half_at, flag_of, only_if}
 use Rattle.block.specs.LinkSteps.{peer_at}
 use Rattle.block.specs.MissingSteps.{hop}
 use Rattle.block.specs.Caches.InBlock.{InOrder}
 use Rattle.block.specs.declared.hops.Hop.{Hop as LinkHop}
 use Rattle.block.specs.declared.caches.grafted.FirstCopy.{FirstCopy}
+use Rattle.block.specs.declared.caches.grafted.Senders.{Senders}
 
 -- grafted message i
 abbrev pub grafted_at : State → ℕ → Entry (Timed Grafts)
@@ -22,12 +24,9 @@ grafted_at s i = get_or s.grafted.entries i (entry 0 (record { expires = 0; valu
 abbrev pub grafts_at : State → ℕ → Grafts
 grafts_at s i = (grafted_at s i).value.value
 
--- the bytes of a first copy that came, and of a peer that is kept
-abbrev pub first_bytes : ℕ → ℕ → List ℕ
-first_bytes p r = 1 ∷ (le_bytes 8 p ++ le_bytes 2 r)
-
-abbrev pub kept_bytes : ℕ → List ℕ
-kept_bytes p = 1 ∷ le_bytes 8 p
+-- the first copy and the kept peer, out of the bytes between an entry's place and its list
+abbrev pub senders_in : List ℕ → Option Hop × Option ℕ
+senders_in own = (only_if (flag_of (byte_at 0 own)) (hop (field_of 1 own) (half_at 9 own)), only_if (flag_of (byte_at 11 own)) (field_of 12 own))
 
 -- peer j of the grafts, by the number of its link
 pub record GraftIs (s : State) (peers : Map ℕ) (j : ℕ) (r : LinkHop) : Type 0 where
@@ -37,6 +36,14 @@ pub record GraftIs (s : State) (peers : Map ℕ) (j : ℕ) (r : LinkHop) : Type 
 -- the first copy
 abbrev pub first_value : Option FirstCopy → Option Hop
 first_value = option_map (λ f. hop f.sender f.round.0)
+
+-- the senders of a grafted message
+abbrev pub senders_of : Senders → Option Hop × Option ℕ
+senders_of r = (first_value r.first, r.kept)
+
+-- the grafted message i with other senders
+abbrev pub senders_to : ℕ → Option Hop × Option ℕ → State → State
+senders_to i p s = with_grafted (replace (grafted_at s i).key (record { first = p.0; kept = p.1; peers = (grafts_at s i).peers }) s.grafted) s
 
 -- a part of being whole: the links ascend, the grafted messages are in order, and the peers of each ascend and are neighbours
 pub record Grafting (s : State) : Type 0 where

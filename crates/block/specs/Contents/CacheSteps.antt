@@ -1,10 +1,10 @@
 -- The steps of the message cache, and what stands between the two stages of one.
 -- Assumes nothing.
-use Rattle.std.specs.Prelude.{ℕ, ◌+◌, ◌-◌, ◌*◌, ◌≡◌, List, [], ◌∷◌, ◌++◌, map, length, take, drop, get_or, set, Option, Some, None}
+use Rattle.std.specs.Prelude.{ℕ, ◌+◌, ◌-◌, ◌*◌, ◌≡◌, List, [], ◌∷◌, ◌++◌, length, take, drop, get_or, set, Option, Some, None}
 use Rattle.storage.specs.Rows.Part.{part, put as put_at}
 use Rattle.storage.specs.Refs.Refs.{Below, refs, places}
 use Rattle.time_cache.specs.TimeCache.{Cache, get, put, replace, expire_until}
-use Rattle.time_cache.specs.Tables.{ExpiryRow, row_at, expiry_rows}
+use Rattle.time_cache.specs.Tables.{ExpiryRow, row_at, expiry_of, expiry_rows}
 use Rattle.protocol.specs.State.{State, Cached, with_cache}
 use Rattle.storage.specs.Rows.Digits.{le_bytes}
 use Rattle.block.specs.Layout.{place, tables, table}
@@ -13,7 +13,7 @@ use Rattle.block.specs.Fit.{Fit}
 use Rattle.block.specs.Heads.{with_cached_counts}
 use Rattle.block.specs.Sound.{AllNumbered, held}
 use Rattle.block.specs.declared.head.Head.{Head}
-use Rattle.block.specs.Contents.Starts.{start_of, len_of, first_start, RowsAdjoin, shifted_row, with_len}
+use Rattle.block.specs.Contents.Starts.{start_of, len_of, extent_in, first_start, RowsAdjoin, Along}
 
 -- `expire_until` of the message cache
 abbrev pub cached_left : ℕ → State → State
@@ -48,8 +48,9 @@ pub record Ahead (h : Head) (block : List ℕ) : Type 0 where
 
 -- the starts of the rows from j on went up and then down, and nothing else has changed
 pub record Shifts (h : Head) (j up down : ℕ) (xs ys : List ℕ) : Type 0 where
-  pub rows : expiry_rows 48 h.live.cached_rows (table (limits_of h.limits) 5 ys)
-      ≡ take j (expiry_rows 48 h.live.cached_rows (table (limits_of h.limits) 5 xs)) ++ map (shifted_row up down) (drop j (expiry_rows 48 h.live.cached_rows (table (limits_of h.limits) 5 xs)))
+  pub later : List ExpiryRow
+  pub along : Along up down (drop j (expiry_rows 48 h.live.cached_rows (table (limits_of h.limits) 5 xs))) later
+  pub rows : expiry_rows 48 h.live.cached_rows (table (limits_of h.limits) 5 ys) ≡ take j (expiry_rows 48 h.live.cached_rows (table (limits_of h.limits) 5 xs)) ++ later
   pub tables : tables (limits_of h.limits) ys ≡ set (tables (limits_of h.limits) xs) 5 (table (limits_of h.limits) 5 ys)
 
 -- another content for a cached message, its round and expiry kept
@@ -72,7 +73,13 @@ cached_rows h block = expiry_rows 48 h.live.cached_rows (table (limits_of h.limi
 -- the content of row p is another: the contents behind it, and their starts, have moved, and nothing else has changed
 pub record Resized (h : Head) (p : ℕ) (content xs : List ℕ) (r : Head) (ys : List ℕ) : Type 0 where
   pub head : r ≡ with_cached_counts h.live.cached h.live.cached_rows (h.live.contents - len_of (row_at (cached_rows h xs) p) + length content) h
-  pub rows : cached_rows h ys ≡ take p (cached_rows h xs) ++ (with_len (length content) (row_at (cached_rows h xs) p) ∷ map (shifted_row (length content) (len_of (row_at (cached_rows h xs) p))) (drop (p + 1) (cached_rows h xs)))
+  pub row : ExpiryRow
+  pub expiry : expiry_of row ≡ expiry_of (row_at (cached_rows h xs) p)
+  pub start : start_of row ≡ start_of (row_at (cached_rows h xs) p)
+  pub len : len_of row ≡ length content
+  pub later : List ExpiryRow
+  pub along : Along (length content) (len_of (row_at (cached_rows h xs) p)) (drop (p + 1) (cached_rows h xs)) later
+  pub rows : cached_rows h ys ≡ take p (cached_rows h xs) ++ (row ∷ later)
   pub store : table (limits_of h.limits) 6 ys
       ≡ put_at (start_of (row_at (cached_rows h xs) p)) content
       (put_at (start_of (row_at (cached_rows h xs) p) + length content)
@@ -81,9 +88,9 @@ pub record Resized (h : Head) (p : ℕ) (content xs : List ℕ) (r : Head) (ys :
   pub tables : tables (limits_of h.limits) ys ≡ set (set (tables (limits_of h.limits) xs) 6 (table (limits_of h.limits) 6 ys)) 5 (table (limits_of h.limits) 5 ys)
   pub long : length ys ≡ length xs
 
--- the bytes of an entry and of its row for a content of no bytes that starts at s: start, length and round
-abbrev pub empty_in : Head → ℕ → ℕ → ℕ → ℕ → List ℕ → List ℕ
-empty_in h i j s round block =
-    put_at (place (limits_of h.limits) 4 + (i * 4 + 2)) (le_bytes 2 round)
-    (put_at (place (limits_of h.limits) 5 + (j * 48 + 44)) (le_bytes 4 0)
-    (put_at (place (limits_of h.limits) 5 + (j * 48 + 40)) (le_bytes 4 s) block))
+-- an entry at round, and its row with a content of no bytes that starts at s
+pub record Emptied (h : Head) (i j s round : ℕ) (xs ys : List ℕ) : Type 0 where
+  pub bytes : List ℕ
+  pub long : length bytes ≡ 8
+  pub holds : extent_in bytes ≡ (s, 0)
+  pub put : ys ≡ put_at (place (limits_of h.limits) 4 + (i * 4 + 2)) (le_bytes 2 round) (put_at (place (limits_of h.limits) 5 + (j * 48 + 40)) bytes xs)

@@ -2,6 +2,7 @@
 -- Assumes nothing.
 use Rattle.std.specs.Prelude.{◌≡◌, Bool, not, List, ◌++◌, map, ℕ, ◌+◌, ◌-◌, ◌*◌, suc, ◌≤◌, ◌<◌, eqb, length, take, drop, get_or}
 use Rattle.storage.specs.Lists.Map.{keys}
+use Rattle.storage.specs.Rows.Part.{part, put}
 use Rattle.storage.specs.Rows.Rows.{rows}
 use Rattle.storage.specs.Refs.Refs.{Ref, ref}
 use Rattle.protocol.specs.State.{State, with_missing, with_queue, with_dropped, with_grafted}
@@ -37,12 +38,24 @@ abbrev pub lower_listed : ℕ → Listed → Listed
 lower_listed i r = record { head = r.head; count = length (lower_all i r.hops); hops = lower_all i r.hops }
 
 -- the list of the row is not empty
-abbrev pub announced : Listed → Bool
-announced r = not (eqb r.count 0)
+abbrev pub has_announcers : Listed → Bool
+has_announcers r = not (eqb r.count 0)
 
 -- the lists at o of n rows of s bytes have at most 32 each
 pub record AllFew (o s n : ℕ) (bytes : List ℕ) : Type 0 where
   pub each : (j : ℕ) → j < n → get_or bytes (j * s + o) 0 ≤ 32
+
+-- the numbers from a to b are other ones than i
+pub record NoneFrom (i a b : ℕ) (numbers : List ℕ) : Type 0 where
+  pub other : (k : ℕ) → a ≤ k → k < b → get_or numbers k 0 ≡ i → ⊥
+
+-- each of the first n missing messages has an announcer
+pub record Announced (n : ℕ) (bytes : List ℕ) : Type 0 where
+  pub some : (k : ℕ) → k < n → get_or bytes (k * 129 + 32) 0 ≡ 0 → ⊥
+
+-- the m notes from j on, numbers at the start and rows at a, put where those from `to` on stand
+unfoldable pub moved_notes : ℕ → ℕ → ℕ → ℕ → List ℕ → List ℕ
+moved_notes a j to m bytes = put to (part j m bytes) (put (a + to * 34) (part (a + j * 34) (m * 34) bytes) bytes)
 
 -- without a peer's announcements, notes and grafts; the links are as they were
 abbrev pub without_traces : ℕ → State → State

@@ -1,29 +1,26 @@
 // `cache`, the message cache: an entry is a place and a round; a row is a time, an identifier, and start and length of the content.
 use crate::caches::contents;
 use crate::head::Head;
-use crate::layout;
-use crate::layout::Layout;
+use crate::layout::{Layout, Table};
 use crate::panel::{Panel, View};
-use crate::time_caches::PanelCache;
+use crate::time_caches::{PanelCache, rows};
 use arrayvec::ArrayVec;
 use postcard::content;
 use postcard::content::Content;
 use postcard::units::{Millis, Round};
 use storage::rows::id::Id;
 use storage::rows::word;
-use time_cache::cache::{Table, TimeBoundCache};
+use time_cache::cache::TimeBoundCache;
 
 // How many bytes an entry has, and where its round stands.
 pub const ENTRY_WIDTH: usize = 4;
 
-pub const ROUND: usize = 2;
+pub(crate) const ROUND: usize = 2;
 
-// How many bytes an expiry row has, and where start and length of the content stand.
+// How many bytes an expiry row has, and where it holds the place of its content.
 pub const ROW_WIDTH: usize = 48;
 
-pub const START: usize = 40;
-
-pub const LEN: usize = 44;
+pub const EXTENT: usize = 40;
 
 // How many messages are cached at most: the ceiling.
 pub const MAX_CACHED: usize = 512;
@@ -43,6 +40,7 @@ pub struct MessageCache;
 impl PanelCache for MessageCache {
     ghost use Rattle.protocol.specs.State.{State, Cached};
     ghost use Rattle.block.specs.TimeCaches.{cached_cache};
+    ghost use Rattle.block.specs.Heads.{with_cached_counts};
 
     ghost Value = { Cached };
 
@@ -50,20 +48,20 @@ impl PanelCache for MessageCache {
 
     ghost located = { cached_cache };
 
+    ghost counted = { λ n m h. with_cached_counts n m h.live.contents h };
+
     // Tables 4 and 5.
     #[tactic(auto, using(crate::proofs::CachesLaws::CachedLaws::cached_stands))]
     fn tables(head: &Head, layout: &Layout) -> TimeBoundCache {
-        let entries = Table {
-            at: layout.start(layout::Table::Cached),
-            stride: ENTRY_WIDTH,
-            len: head.live.cached,
-        };
-        let expiry = Table {
-            at: layout.start(layout::Table::CachedRows),
-            stride: ROW_WIDTH,
-            len: head.live.cached_rows,
-        };
+        let live = &head.live;
+        let entries = rows(layout, Table::Cached, ENTRY_WIDTH, live.cached);
+        let expiry = rows(layout, Table::CachedRows, ROW_WIDTH, live.cached_rows);
         TimeBoundCache { entries, expiry }
+    }
+
+    fn set_counts(head: &mut Head, cache: TimeBoundCache) {
+        head.live.cached = cache.entries.len;
+        head.live.cached_rows = cache.expiry.len;
     }
 }
 
@@ -99,10 +97,10 @@ impl<'a> View<'a> {
         ensures content { result.now ≡ (cached_at (shown self.now) entry).content }
         ensures few { length result.now ≤ (shown self.now).limits.B }
     {
-        let row = self.start(layout::Table::CachedRows) + ROW_WIDTH * self.cached_row(entry);
-        let start = word::load4(self.block, row + START) as usize;
-        let len = word::load4(self.block, row + LEN) as usize;
-        let start = self.start(layout::Table::Contents) + start;
+        let row = self.cached_row(entry);
+        let extent = contents::extent_of(self.head, self.layout, self.block, row);
+        let start = self.start(Table::Contents) + extent.start as usize;
+        let len = extent.len as usize;
         content::content_part(Content::InStore { start, len }, self.block)
     }
 
@@ -111,7 +109,7 @@ impl<'a> View<'a> {
         requires { entry < length (shown self.now).cache.entries }
         ensures { result.0 ≡ (cached_at (shown self.now) entry).round }
     {
-        let at = self.start(layout::Table::Cached) + ENTRY_WIDTH * entry;
+        let at = self.start(Table::Cached) + ENTRY_WIDTH * entry;
         Round(word::load2(self.block, at + ROUND) as u16)
     }
 
@@ -168,10 +166,7 @@ impl<'a> Panel<'a> {
         requires { InOrder (state self.old).cache }
         ensures { Goes (cached_left instant.0) self.old self.new }
     {
-        let cache = MessageCache::tables(&self.head, self.layout);
-        let expired = cache.expire_until(self.block, instant, &mut []);
-        self.head.live.cached = expired.cache.entries.len;
-        self.head.live.cached_rows = expired.cache.expiry.len;
+        MessageCache::expire(&mut self.head, self.layout, self.block, instant);
         contents::close_contents(&mut self.head, self.layout, self.block);
     }
 
@@ -194,10 +189,8 @@ impl<'a> Panel<'a> {
         requires empty { held (put (id_of id) (message [] round.0) expires.0 (state self.old).cache).entries ≡ held (state self.old).cache.entries }
         ensures { Goes (cached_also (id_of id) [] round.0 expires.0) self.old self.new }
     {
-        let cache = MessageCache::tables(&self.head, self.layout);
-        let inserted = cache.insert(self.block, id, expires);
-        self.head.live.cached = inserted.cache.entries.len;
-        self.head.live.cached_rows = inserted.cache.expiry.len;
+        let head = &mut self.head;
+        let inserted = MessageCache::insert(head, self.layout, self.block, id, expires);
         contents::store_empty(&self.head, self.layout, self.block, inserted, round);
     }
 

@@ -1,30 +1,81 @@
 // The contents of the message cache stand one after the other, in the order of the expiry rows; an expiry row has start and length of its content. What is changed here
 // in one step of several is a header and a block: between the steps they are no panel.
-ghost use Rattle.std.specs.Prelude.{◌≡◌, [], map, ◌+◌, ◌*◌, ◌≤◌, ◌<◌, length, drop};
-ghost use Rattle.storage.specs.Rows.Ident.{id_of};
+ghost use Rattle.std.specs.Prelude.{◌≡◌, ℕ, ◌+◌, ◌*◌, ◌≤◌, ◌<◌, length, drop};
 ghost use Rattle.storage.specs.Rows.Part.{part, put};
 ghost use Rattle.time_cache.specs.Tables.{expiry_rows, row_at};
-ghost use Rattle.block.specs.Layout.{table};
+ghost use Rattle.block.specs.Layout.{place};
 ghost use Rattle.block.specs.View.{limits_of};
 ghost use Rattle.block.specs.Fit.{Fit};
 ghost use Rattle.block.specs.Sound.{Sound};
 ghost use Rattle.block.specs.Layouts.{LaysOut};
 ghost use Rattle.block.specs.Becomes.{Becomes};
-ghost use Rattle.block.specs.Contents.Starts.{len_of, first_start, shifted_row, Above};
-ghost use Rattle.block.specs.Contents.CacheSteps.{cached_rows, empty_in, Ahead, Shifts, Resized};
+ghost use Rattle.block.specs.Contents.Starts.{len_of, extent_in, ExtentIs, ExtentPut, first_start, Along, Above};
+ghost use Rattle.block.specs.Contents.CacheSteps.{cached_rows, Ahead, Shifts, Resized, Emptied};
 
 use crate::caches::cached;
 use crate::head::Head;
 use crate::layout::{Layout, Table};
 use postcard::units::Round;
 use storage::rows::{bytes, table, word};
+use storage::tables::Row;
 use time_cache::cache::Inserted;
+
+// Where a content stands among the contents: what an expiry row of the message cache holds behind its identifier.
+#[derive(Clone, Copy)]
+pub struct Extent {
+    pub start: u32,
+    pub len: u32,
+}
+
+impl Row for Extent {
+    const WIDTH: usize = 8;
+
+    ghost WIDTH = { 8 };
+
+    ghost Item = { ℕ × ℕ };
+
+    ghost item = { extent_in };
+
+    ghost of = { λ e. (e.start, e.len) };
+
+    fn load(bytes: &[u8]) -> Extent {
+        Extent {
+            start: word::load4(bytes, 0) as u32,
+            len: word::load4(bytes, 4) as u32,
+        }
+    }
+
+    fn store(self, bytes: &mut [u8]) {
+        word::store_le(bytes, 0, 4, self.start as u64);
+        word::store_le(bytes, 4, 4, self.len as u64);
+    }
+}
+
+// Where the content of a row stands.
+pub fn extent_of(head: &Head, layout: &Layout, block: &[u8], row: usize) -> Extent
+    requires fit { Fit head.now block.now × LaysOut layout.now (limits_of head.now.limits) }
+    requires there { row < head.now.live.cached_rows }
+    ensures { ExtentIs (row_at (cached_rows head.now block.now) row) result }
+{
+    let at = layout.start(Table::CachedRows) + (cached::ROW_WIDTH * row + cached::EXTENT);
+    Extent::load(&block[at..at + Extent::WIDTH])
+}
+
+// Writes where the content of a row stands.
+fn set_extent(head: &Head, layout: &Layout, block: &mut [u8], row: usize, extent: Extent)
+    requires fit { Fit head.now block.old × LaysOut layout.now (limits_of head.now.limits) }
+    requires there { row < head.now.live.cached_rows }
+    ensures { ExtentPut (place (limits_of head.now.limits) 5 + (row * 48 + 40)) extent block.old block.new }
+{
+    let at = layout.start(Table::CachedRows) + (cached::ROW_WIDTH * row + cached::EXTENT);
+    extent.store(&mut block[at..at + Extent::WIDTH]);
+}
 
 // By how much starts move: up, and then down.
 #[derive(Clone, Copy)]
-pub struct Shift {
-    pub up: usize,
-    pub down: usize,
+struct Shift {
+    up: usize,
+    down: usize,
 }
 
 // Where the content of row j starts among the contents; for the row after the last, where the contents end.
@@ -34,8 +85,7 @@ fn start_of(head: &Head, layout: &Layout, block: &[u8], j: usize) -> usize
     ensures { result ≡ first_start head.now.live.contents (drop j (cached_rows head.now block.now)) }
 {
     if j < head.live.cached_rows {
-        let at = layout.start(Table::CachedRows) + cached::ROW_WIDTH * j;
-        return word::load4(block, at + cached::START) as usize;
+        return extent_of(head, layout, block, j).start as usize;
     }
     head.live.contents
 }
@@ -43,14 +93,14 @@ fn start_of(head: &Head, layout: &Layout, block: &[u8], j: usize) -> usize
 // Moves the starts of n rows: one pass.
 fn shift_starts(rows: &mut [u8], n: usize, shift: Shift)
     requires { (n * 48 ≤ length rows.old) × (shift.up ≤ 1048576) × Above shift.up shift.down (expiry_rows 48 n rows.old) }
-    ensures { expiry_rows 48 n rows.new ≡ map (shifted_row shift.up shift.down) (expiry_rows 48 n rows.old) }
+    ensures { Along shift.up shift.down (expiry_rows 48 n rows.old) (expiry_rows 48 n rows.new) }
 {
-    let up = shift.up as u64;
-    let down = shift.down as u64;
     for i in 0..n {
-        let at = i * cached::ROW_WIDTH + cached::START;
-        let start = word::load4(rows, at);
-        word::store_le(rows, at, 4, start + up - down);
+        let at = i * cached::ROW_WIDTH + cached::EXTENT;
+        let row = &mut rows[at..at + Extent::WIDTH];
+        let Extent { start, len } = Extent::load(row);
+        let start = (start as usize + shift.up - shift.down) as u32;
+        Extent { start, len }.store(row);
     }
 }
 
@@ -85,16 +135,6 @@ pub fn close_contents(head: &mut Head, layout: &Layout, block: &mut [u8])
     head.live.contents = left;
 }
 
-// How long the content of a row is.
-fn len_of(head: &Head, layout: &Layout, block: &[u8], place: usize) -> usize
-    requires fit { Fit head.now block.now × LaysOut layout.now (limits_of head.now.limits) }
-    requires there { place < head.now.live.cached_rows }
-    ensures { result ≡ len_of (row_at (cached_rows head.now block.now) place) }
-{
-    let at = layout.start(Table::CachedRows) + cached::ROW_WIDTH * place;
-    word::load4(block, at + cached::LEN) as usize
-}
-
 // Copies the k bytes at `from` to `to`, where the two may overlap.
 fn move_bytes(bytes: &mut [u8], from: usize, to: usize, k: usize)
     requires { (from + k ≤ length bytes.old) × (to + k ≤ length bytes.old) }
@@ -115,28 +155,28 @@ pub fn resize_row(head: &mut Head, layout: &Layout, block: &mut [u8], place: usi
     ensures { Resized head.old place content.now block.old head.new block.new }
 {
     let k = content.len();
-    let start = start_of(head, layout, block, place);
-    let len = len_of(head, layout, block, place);
+    let extent = extent_of(head, layout, block, place);
+    let start = extent.start as usize;
+    let len = extent.len as usize;
     let contents = layout.start(Table::Contents);
     let behind = head.live.contents - start - len;
     move_bytes(block, contents + start + len, contents + start + k, behind);
     shift_rows(head, layout, block, place + 1, Shift { up: k, down: len });
     bytes::copy_bytes(block, contents + start, content);
-    let row = layout.start(Table::CachedRows) + cached::ROW_WIDTH * place;
-    word::store_le(block, row + cached::LEN, 4, k as u64);
-    head.live.contents = head.live.contents - len + k;
+    let len = k as u32;
+    set_extent(head, layout, block, place, Extent { len, ..extent });
+    head.live.contents = head.live.contents - extent.len as usize + k;
 }
 
-// Stores round, start and length of a content of no bytes in a new entry and its row: it starts where that of the next row does.
+// Stores the round in a new entry, and in its row a content of no bytes: it starts where that of the next row does.
 pub fn store_empty(head: &Head, layout: &Layout, block: &mut [u8], inserted: Inserted, round: Round)
     requires fit { Fit head.now block.old × LaysOut layout.now (limits_of head.now.limits) }
     requires there { (inserted.entry < head.now.live.cached) × (inserted.row < head.now.live.cached_rows) }
-    ensures { block.new ≡ empty_in head.now inserted.entry inserted.row (first_start head.now.live.contents (drop (inserted.row + 1) (cached_rows head.now block.old))) round.0 block.old }
+    requires few { first_start head.now.live.contents (drop (inserted.row + 1) (cached_rows head.now block.old)) < 4294967296 }
+    ensures { Emptied head.now inserted.entry inserted.row (first_start head.now.live.contents (drop (inserted.row + 1) (cached_rows head.now block.old))) round.0 block.old block.new }
 {
-    let start = start_of(head, layout, block, inserted.row + 1);
-    let row = layout.start(Table::CachedRows) + inserted.row * cached::ROW_WIDTH;
-    word::store_le(block, row + cached::START, 4, start as u64);
-    word::store_le(block, row + cached::LEN, 4, 0);
+    let start = start_of(head, layout, block, inserted.row + 1) as u32;
+    set_extent(head, layout, block, inserted.row, Extent { start, len: 0 });
     let entry = layout.start(Table::Cached) + inserted.entry * cached::ENTRY_WIDTH;
     word::store_le(block, entry + cached::ROUND, 2, round.0 as u64);
 }

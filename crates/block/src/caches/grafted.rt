@@ -1,37 +1,30 @@
 // `grafted`: an entry is a place, first, kept, and the grafted peers with their rounds; a row is a time and an identifier.
-ghost use Rattle.std.specs.Prelude.{◌≡◌, ◌+◌, ◌≤◌, length};
+ghost use Rattle.std.specs.Prelude.{◌≡◌, ◌+◌, ◌≤◌, ℕ, Option, length};
 ghost use Rattle.storage.specs.Rows.Ident.{id_of};
-ghost use Rattle.storage.specs.Rows.Part.{put};
 ghost use Rattle.time_cache.specs.TimeCache.{put as put_in};
+ghost use Rattle.protocol.specs.State.{Hop as SentHop};
 ghost use Rattle.block.specs.Caches.InBlock.{InOrder, AtMost};
-ghost use Rattle.block.specs.Caches.GraftSteps.{first_bytes, kept_bytes, no_grafts, entered_state, EnteredAt};
+ghost use Rattle.block.specs.View.{flag_of, only_if};
+ghost use Rattle.block.specs.Caches.GraftSteps.{senders_in, senders_of, no_grafts, entered_state, EnteredAt};
 
 use crate::head::Head;
+use crate::hops;
 use crate::hops::Hop;
-use crate::layout::Layout;
+use crate::layout::{Layout, Table};
 use crate::panel::{Panel, View};
-use crate::time_caches::PanelCache;
-use crate::{hops, layout};
+use crate::time_caches::{PanelCache, rows};
 use postcard::units::{Millis, Round};
 use storage::rows::id::Id;
 use storage::rows::word;
-use time_cache::cache::{Table, TimeBoundCache};
+use storage::tables::Row;
+use time_cache::cache::TimeBoundCache;
 
-// How many bytes an entry has, and where its parts stand: a flag and behind it the peer and the round of `first`, a flag and behind it the peer of `kept`,
-// and the list of the grafted peers.
+// How many bytes an entry has, and where its parts stand: the senders, and the list of the grafted peers.
 pub const ENTRY_WIDTH: usize = 119;
 
-pub const FIRST: usize = 2;
+const SENDERS: usize = 2;
 
-pub const FIRST_PEER: usize = 3;
-
-pub const FIRST_ROUND: usize = 11;
-
-pub const KEPT: usize = 13;
-
-pub const KEPT_PEER: usize = 14;
-
-pub const PEERS: usize = 22;
+pub(crate) const PEERS: usize = 22;
 
 // How many bytes an expiry row has.
 pub const ROW_WIDTH: usize = 40;
@@ -49,6 +42,7 @@ pub struct GraftedMessages;
 impl PanelCache for GraftedMessages {
     ghost use Rattle.protocol.specs.State.{State, Grafts};
     ghost use Rattle.block.specs.TimeCaches.{grafted_cache};
+    ghost use Rattle.block.specs.Heads.{with_grafted_counts};
 
     ghost Value = { Grafts };
 
@@ -56,40 +50,92 @@ impl PanelCache for GraftedMessages {
 
     ghost located = { grafted_cache };
 
+    ghost counted = { with_grafted_counts };
+
     // Tables 7 and 8.
     #[tactic(auto, using(crate::proofs::CachesLaws::GraftedLaws::grafted_stands))]
     fn tables(head: &Head, layout: &Layout) -> TimeBoundCache {
-        let entries = Table {
-            at: layout.start(layout::Table::Grafted),
-            stride: ENTRY_WIDTH,
-            len: head.live.grafted,
-        };
-        let expiry = Table {
-            at: layout.start(layout::Table::GraftedRows),
-            stride: ROW_WIDTH,
-            len: head.live.grafted_rows,
-        };
+        let live = &head.live;
+        let entries = rows(layout, Table::Grafted, ENTRY_WIDTH, live.grafted);
+        let expiry = rows(layout, Table::GraftedRows, ROW_WIDTH, live.grafted_rows);
         TimeBoundCache { entries, expiry }
+    }
+
+    fn set_counts(head: &mut Head, cache: TimeBoundCache) {
+        head.live.grafted = cache.entries.len;
+        head.live.grafted_rows = cache.expiry.len;
     }
 }
 
-// Writes a `first` into the entry at `at`.
-fn store_first(block: &mut [u8], at: usize, first: FirstCopy)
-    requires { at + 119 ≤ length block.old }
-    ensures { block.new ≡ put (at + 2) (first_bytes first.sender first.round.0) block.old }
-{
-    block[at + FIRST] = 1;
-    word::store(block, at + FIRST_PEER, first.sender);
-    word::store_le(block, at + FIRST_ROUND, 2, first.round.0 as u64);
+// What an entry holds between its place and its list, each behind a flag: the first copy, if it came, and the peer that is kept for a faster one, if there is one.
+#[derive(Clone, Copy)]
+pub struct Senders {
+    first: Option<FirstCopy>,
+    kept: Option<u64>,
 }
 
-// Writes a `kept` into the entry at `at`.
-fn store_kept(block: &mut [u8], at: usize, peer: u64)
-    requires { at + 119 ≤ length block.old }
-    ensures { block.new ≡ put (at + 13) (kept_bytes peer) block.old }
+impl Senders {
+    // Where sender and round of the first copy stand, and the flag and the peer that is kept.
+    const SENDER: usize = 1;
+
+    const ROUND: usize = 9;
+
+    const KEPT: usize = 11;
+
+    const KEPT_PEER: usize = 12;
+}
+
+// The value behind a flag.
+fn behind<T: Copy>(flag: u8, value: T) -> Option<T>
+    ensures { result ≡ only_if (flag_of flag) value }
 {
-    block[at + KEPT] = 1;
-    word::store(block, at + KEPT_PEER, peer);
+    if flag == 0 {
+        return None;
+    }
+    Some(value)
+}
+
+// A value with a flag before it: where there is none, 0 and another value.
+fn flagged<T: Copy>(value: Option<T>, other: T) -> (u8, T)
+    ensures { only_if (flag_of result.0) result.1 ≡ value }
+{
+    match value {
+        Some(value) => (1, value),
+        None => (0, other),
+    }
+}
+
+impl Row for Senders {
+    const WIDTH: usize = 20;
+
+    ghost WIDTH = { 20 };
+
+    ghost Item = { Option SentHop × Option ℕ };
+
+    ghost item = { senders_in };
+
+    ghost of = { senders_of };
+
+    fn load(bytes: &[u8]) -> Senders {
+        let sender = word::load(bytes, Senders::SENDER);
+        let round = Round(word::load2(bytes, Senders::ROUND) as u16);
+        let peer = word::load(bytes, Senders::KEPT_PEER);
+        Senders {
+            first: behind(bytes[0], FirstCopy { sender, round }),
+            kept: behind(bytes[Senders::KEPT], peer),
+        }
+    }
+
+    fn store(self, bytes: &mut [u8]) {
+        let round = Round(0);
+        let (flag, first) = flagged(self.first, FirstCopy { sender: 0, round });
+        bytes[0] = flag;
+        word::store(bytes, Senders::SENDER, first.sender);
+        word::store_le(bytes, Senders::ROUND, 2, first.round.0 as u64);
+        let (flag, peer) = flagged(self.kept, 0);
+        bytes[Senders::KEPT] = flag;
+        word::store(bytes, Senders::KEPT_PEER, peer);
+    }
 }
 
 impl<'a> View<'a> {
@@ -110,7 +156,7 @@ impl<'a> View<'a> {
         ensures at { result ≡ place (limits_of self.now.head.now.limits) 7 + 119 * entry }
         ensures within { result + 119 ≤ length self.now.block.now }
     {
-        self.start(layout::Table::Grafted) + ENTRY_WIDTH * entry
+        self.start(Table::Grafted) + ENTRY_WIDTH * entry
     }
 
     // How many peers are grafted for a grafted message.
@@ -129,19 +175,21 @@ impl<'a> View<'a> {
         hops::hop_at(self.block, self.graft_at(entry) + PEERS, number)
     }
 
+    // The senders of a grafted message.
+    fn senders(&self, entry: usize) -> Senders
+        requires { entry < length (shown self.now).grafted.entries }
+        ensures { senders_of result ≡ ((grafts_at (shown self.now) entry).first, (grafts_at (shown self.now) entry).kept) }
+    {
+        let at = self.graft_at(entry) + SENDERS;
+        Senders::load(&self.block[at..at + Senders::WIDTH])
+    }
+
     // The first copy of a grafted message, if it came.
     pub fn first_copy(&self, entry: usize) -> Option<FirstCopy>
         requires { entry < length (shown self.now).grafted.entries }
         ensures { first_value result ≡ (grafts_at (shown self.now) entry).first }
     {
-        let at = self.graft_at(entry);
-        if self.block[at + FIRST] == 0 {
-            return None;
-        }
-        Some(FirstCopy {
-            sender: word::load(self.block, at + FIRST_PEER),
-            round: Round(word::load2(self.block, at + FIRST_ROUND) as u16),
-        })
+        self.senders(entry).first
     }
 
     // The peer that is kept for a grafted message, for a faster copy, if there is one.
@@ -149,11 +197,7 @@ impl<'a> View<'a> {
         requires { entry < length (shown self.now).grafted.entries }
         ensures { result ≡ (grafts_at (shown self.now) entry).kept }
     {
-        let at = self.graft_at(entry);
-        if self.block[at + KEPT] == 0 {
-            return None;
-        }
-        Some(word::load(self.block, at + KEPT_PEER))
+        self.senders(entry).kept
     }
 
     // Whether a peer is the one that is kept for a grafted message.
@@ -212,7 +256,7 @@ impl<'a> Panel<'a> {
     ghost use Rattle.protocol.specs.State.{with_grafted};
     ghost use Rattle.block.specs.LinkSteps.{peer_at};
     ghost use Rattle.block.specs.Caches.InBlock.{grafted_left};
-    ghost use Rattle.block.specs.Caches.GraftSteps.{grafts_at, first_at, kept_at, Grafting, peers_to, peers_with, graft_noted};
+    ghost use Rattle.block.specs.Caches.GraftSteps.{grafts_at, senders_to, first_at, kept_at, Grafting, peers_to, peers_with, graft_noted};
     ghost use Rattle.block.specs.Panels.{state, Goes};
 
     // `expire_until` of the grafted messages.
@@ -220,10 +264,16 @@ impl<'a> Panel<'a> {
         requires { InOrder (state self.old).grafted }
         ensures { Goes (grafted_left instant.0) self.old self.new }
     {
-        let cache = GraftedMessages::tables(&self.head, self.layout);
-        let expired = cache.expire_until(self.block, instant, &mut []);
-        self.head.live.grafted = expired.cache.entries.len;
-        self.head.live.grafted_rows = expired.cache.expiry.len;
+        GraftedMessages::expire(&mut self.head, self.layout, self.block, instant);
+    }
+
+    // Other senders of a grafted message.
+    fn set_senders(&mut self, entry: usize, senders: Senders)
+        requires { InOrder (state self.old).grafted × (entry < length (state self.old).grafted.entries) }
+        ensures { Goes (senders_to entry (senders_of senders)) self.old self.new }
+    {
+        let at = self.view().graft_at(entry) + SENDERS;
+        senders.store(&mut self.block[at..at + Senders::WIDTH]);
     }
 
     // "set a grafted entry's `first` to sender and r".
@@ -231,8 +281,9 @@ impl<'a> Panel<'a> {
         requires { InOrder (state self.old).grafted × (entry < length (state self.old).grafted.entries) }
         ensures { Goes (first_at entry sender round.0) self.old self.new }
     {
-        let at = self.view().graft_at(entry);
-        store_first(self.block, at, FirstCopy { sender, round });
+        let first = Some(FirstCopy { sender, round });
+        let kept = self.view().kept_sender(entry);
+        self.set_senders(entry, Senders { first, kept });
     }
 
     // A peer is kept for a grafted message.
@@ -240,8 +291,9 @@ impl<'a> Panel<'a> {
         requires { InOrder (state self.old).grafted × (entry < length (state self.old).grafted.entries) }
         ensures { Goes (kept_at entry peer) self.old self.new }
     {
-        let at = self.view().graft_at(entry);
-        store_kept(self.block, at, peer);
+        let first = self.view().first_copy(entry);
+        let kept = Some(peer);
+        self.set_senders(entry, Senders { first, kept });
     }
 
     // A peer more of a grafted message, before its peer j.
@@ -288,13 +340,11 @@ impl<'a> Panel<'a> {
         ensures goes { Goes (entered_state (id_of id) expires.0) self.old self.new }
         ensures entry { EnteredAt (id_of id) (state self.new) result }
     {
-        let cache = GraftedMessages::tables(&self.head, self.layout);
+        let start = self.layout.start(Table::Grafted);
         let block = &mut *self.block;
-        let inserted = cache.insert(block, id, expires);
-        let at = cache.entries.at + ENTRY_WIDTH * inserted.entry + FIRST;
-        word::store_le(block, at, PEERS + 1 - FIRST, 0);
-        self.head.live.grafted = inserted.cache.entries.len;
-        self.head.live.grafted_rows = inserted.cache.expiry.len;
+        let inserted = GraftedMessages::insert(&mut self.head, self.layout, block, id, expires);
+        let at = start + ENTRY_WIDTH * inserted.entry + SENDERS;
+        word::store_le(block, at, Senders::WIDTH + 1, 0);
         inserted.entry
     }
 

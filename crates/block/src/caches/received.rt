@@ -1,12 +1,11 @@
 // `received_messages`: an entry is a place, a row is a time and an identifier.
 use crate::head::Head;
-use crate::layout;
-use crate::layout::Layout;
+use crate::layout::{Layout, Table};
 use crate::panel::{Panel, View};
-use crate::time_caches::PanelCache;
+use crate::time_caches::{PanelCache, rows};
 use postcard::units::Millis;
 use storage::rows::id::Id;
-use time_cache::cache::{Table, TimeBoundCache};
+use time_cache::cache::TimeBoundCache;
 
 // How many bytes an entry has, and how many an expiry row.
 pub const ENTRY_WIDTH: usize = 2;
@@ -19,6 +18,7 @@ pub struct ReceivedMessages;
 impl PanelCache for ReceivedMessages {
     ghost use Rattle.protocol.specs.State.{State};
     ghost use Rattle.block.specs.TimeCaches.{received_cache};
+    ghost use Rattle.block.specs.Heads.{with_received_counts};
 
     ghost Value = { Unit {0} };
 
@@ -26,20 +26,20 @@ impl PanelCache for ReceivedMessages {
 
     ghost located = { received_cache };
 
+    ghost counted = { with_received_counts };
+
     // Tables 2 and 3.
     #[tactic(auto, using(crate::proofs::CachesLaws::ReceivedLaws::received_stands))]
     fn tables(head: &Head, layout: &Layout) -> TimeBoundCache {
-        let entries = Table {
-            at: layout.start(layout::Table::Received),
-            stride: ENTRY_WIDTH,
-            len: head.live.received,
-        };
-        let expiry = Table {
-            at: layout.start(layout::Table::ReceivedRows),
-            stride: ROW_WIDTH,
-            len: head.live.received_rows,
-        };
+        let live = &head.live;
+        let entries = rows(layout, Table::Received, ENTRY_WIDTH, live.received);
+        let expiry = rows(layout, Table::ReceivedRows, ROW_WIDTH, live.received_rows);
         TimeBoundCache { entries, expiry }
+    }
+
+    fn set_counts(head: &mut Head, cache: TimeBoundCache) {
+        head.live.received = cache.entries.len;
+        head.live.received_rows = cache.expiry.len;
     }
 }
 
@@ -71,10 +71,7 @@ impl<'a> Panel<'a> {
         requires room { AtMost (state self.old).limits.R (put (id_of id) tt expires.0 (state self.old).received) }
         ensures { Goes (received_also (id_of id) expires.0) self.old self.new }
     {
-        let cache = ReceivedMessages::tables(&self.head, self.layout);
-        let inserted = cache.insert(self.block, id, expires);
-        self.head.live.received = inserted.cache.entries.len;
-        self.head.live.received_rows = inserted.cache.expiry.len;
+        ReceivedMessages::insert(&mut self.head, self.layout, self.block, id, expires);
     }
 
     // `expire_until` of the received messages.
@@ -82,9 +79,6 @@ impl<'a> Panel<'a> {
         requires { InOrder (state self.old).received }
         ensures { Goes (received_left instant.0) self.old self.new }
     {
-        let cache = ReceivedMessages::tables(&self.head, self.layout);
-        let expired = cache.expire_until(self.block, instant, &mut []);
-        self.head.live.received = expired.cache.entries.len;
-        self.head.live.received_rows = expired.cache.expiry.len;
+        ReceivedMessages::expire(&mut self.head, self.layout, self.block, instant);
     }
 }

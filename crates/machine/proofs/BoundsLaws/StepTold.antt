@@ -30,7 +30,7 @@ step-light rooms now t (step.IHave link ihaves) s small held =
 step-light rooms now t (step.Broadcast m) s small held =
     light-more (broadcast-light rooms (id_of m.id) m.content.now s small held.short) (omega arith)
 step-light rooms now t (step.SendGraft id) s small held = light-more (send-graft-light rooms (id_of id) s) (omega arith)
-step-light rooms now t step.DispatchLazyPush s small held = dispatch-light rooms s small
+step-light rooms now t (step.DispatchLazyPush rows) s small held = dispatch-light rooms s small
 step-light rooms now t step.EvictCache s small held = light-more (evict-light now s small) (omega arith)
 step-light rooms now t step.AnnounceDropped s small held = light-more (announce-light s) (omega arith)
 

@@ -3,7 +3,7 @@
 use Rattle.machine.proofs.Words.{ℕ, ◌≤◌, ◌<◌, ◌≡◌, refl, sym, ap, ◌∙◌, subst, Bool, true, false, not, ◌&&◌, List, [], ◌∷◌, ◌++◌, arith, leb-true, leb-false, lt-ltb, le-ltb, eqb, ltb, leb, length, get_or, length-append, Option, Some, all, and_right, identifier, Delivery, Swarm, Neighbors, Ihave, Gossip, Prune, Graft, IHave, Received, Broadcast, Fired, SendGraft, DispatchLazyPush, EvictCache, AnnounceDropped, ihave_bytes, message_bytes, delivery_value, wanted_value, ihaves_value, Links, is_neighbour, State, Counts, Room, peer_at, settled_actions}
 use Rattle.storage.specs.Lists.Base.{concat_map}
 use Rattle.storage.specs.Lists.Map.{keys}
-use Rattle.storage.proofs.ListsLaws.Branches.{if-on, if-both, if-same}
+use Rattle.storage.proofs.ListsLaws.Branches.{if-both}
 use Rattle.storage.specs.Rows.Ident.{id_of}
 use Rattle.std.specs.Borrow.{Bor}
 use Rattle.storage.specs.declared.rows.id.Id.{Id}
@@ -25,7 +25,7 @@ use Rattle.steps.proofs.NeighborLaws.{found-neighbour}
 use Rattle.decide.specs.Settled.{settled, received_before, too_far_before}
 use Rattle.decide.specs.ActionsAfter.{gossip_actions, message_actions, timer_actions, actions_after}
 use Rattle.decide.specs.StateAfter.{first_state, timer_state, gossip_state, message_state, state_after}
-use Rattle.decide.proofs.SettledLaws.{evicted, settled-received}
+use Rattle.decide.proofs.SettledLaws.{evicted, settled-links, settled-received}
 use Rattle.announcements.specs.Ihaves.New.{is_received}
 use Rattle.announcements.proofs.IhavesLaws.ReceivedLaws.{received-actions, received-state}
 use Rattle.decide.specs.Counted.{message_counts, counts_after_call}
@@ -44,10 +44,6 @@ unfolding first_state settled evict
 first-settled now s c =
     let e = evicted now s c in
     if-both s.init refl (rw (e.received, e.grafted, e.cache) refl)
-
-pub settled-links : (now : ℕ) (s : State) → (settled now s).links ≡ s.links
-unfolding settled
-settled-links now s = if-on (λ (x : State). x.links) s.init _ _ ∙ if-same s.init refl refl
 
 -- a new message, and a copy of one received before
 abbrev pub news : ℕ → Id → Bor (List ℕ) → Round → Decision → Step
@@ -265,9 +261,9 @@ module _ (now : ℕ) (s : State) (core : CoreOf s) where
   unfolding too_far_before actions_after state_after counts_after_call timer_actions timer_state counted_for step_far step_actions step_state step_counts
   means-timer-graft i = record { far = refl; actions = λ rooms. refl; state = λ rooms. rw (first-settled now s core) refl; counts = λ n. refl; held = tt; sender = tt }
 
-  pub means-timer-dispatch : Means now s step.DispatchLazyPush (Fired DispatchLazyPush)
+  pub means-timer-dispatch : (rows : Bor (List ℕ)) → Means now s (step.DispatchLazyPush rows) (Fired DispatchLazyPush)
   unfolding too_far_before actions_after state_after counts_after_call timer_actions timer_state counted_for step_far step_actions step_state step_counts
-  means-timer-dispatch = record { far = refl; actions = λ rooms. refl; state = λ rooms. rw (first-settled now s core) refl; counts = λ n. refl; held = tt; sender = tt }
+  means-timer-dispatch rows = record { far = refl; actions = λ rooms. refl; state = λ rooms. rw (first-settled now s core) refl; counts = λ n. refl; held = tt; sender = tt }
 
   pub means-timer-evict : Means now s step.EvictCache (Fired EvictCache)
   unfolding too_far_before actions_after state_after counts_after_call timer_actions timer_state counted_for step_far step_actions step_state step_counts

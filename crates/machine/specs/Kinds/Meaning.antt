@@ -7,6 +7,9 @@ use Rattle.postcard.specs.Message.{Neighbors, Event, Received, Action, Emitted}
 use Rattle.postcard.specs.Values.{wanted_value}
 use Rattle.wire.specs.Reader.Values.{ihaves_value}
 use Rattle.wire.specs.declared.reader.ihaves.Ihaves.{Ihaves}
+use Rattle.wire.specs.declared.reader.event.Event.{Event as Read}
+use Rattle.wire.specs.declared.reader.event.Event.TheVariants as read
+use Rattle.postcard.specs.declared.message.Timer.TheVariants.{DispatchLazyPush}
 use Rattle.protocol.specs.Links.{add_lazy}
 use Rattle.protocol.specs.State.{State, Counts, with_links}
 use Rattle.protocol.specs.Run.{Room}
@@ -20,6 +23,7 @@ use Rattle.steps.specs.declared.call.Call.{Call}
 use Rattle.payloads.specs.Broadcast.{OwnPush}
 use Rattle.payloads.specs.OnGossip.{Decided}
 use Rattle.payloads.specs.OnLateGraftReply.{late_value, LateHeld, after_late}
+use Rattle.announcements.specs.QueuedRows.{NotedBack}
 use Rattle.decide.specs.Counted.{raised, counts_after_call}
 use Rattle.machine.specs.declared.kinds.Step.{Step}
 use Rattle.machine.specs.declared.kinds.Step.TheVariants as step
@@ -34,7 +38,7 @@ step_actions rooms now (step.Graft link w) s = graft_actions rooms (peer_at s li
 step_actions rooms now (step.IHave link ihaves) s = ihave_actions (ihaves_value ihaves) s
 step_actions rooms now (step.Broadcast m) s = broadcast_actions rooms (id_of m.id) m.content.now s
 step_actions rooms now (step.SendGraft id) s = send_graft_actions rooms (id_of id) s
-step_actions rooms now step.DispatchLazyPush s = dispatch_actions rooms s
+step_actions rooms now (step.DispatchLazyPush rows) s = dispatch_actions rooms s
 step_actions rooms now step.EvictCache s = evict_actions now s
 step_actions rooms now step.AnnounceDropped s = announce_actions s
 step_actions rooms now _ s = []
@@ -48,7 +52,7 @@ step_state rooms now (step.Graft link w) s = graft_state rooms (peer_at s link) 
 step_state rooms now (step.IHave link ihaves) s = ihave_state (peer_at s link) (ihaves_value ihaves) s
 step_state rooms now (step.Broadcast m) s = broadcast_state rooms now (id_of m.id) m.content.now s
 step_state rooms now (step.SendGraft id) s = send_graft_state now (id_of id) s
-step_state rooms now step.DispatchLazyPush s = dispatch_state rooms s
+step_state rooms now (step.DispatchLazyPush rows) s = dispatch_state rooms s
 step_state rooms now step.EvictCache s = evict now s
 step_state rooms now step.AnnounceDropped s = announce_state s
 step_state rooms now _ s = s
@@ -92,7 +96,12 @@ StepHeld s _ = Unit {0}
 abbrev pub StepDecided : Call → Step → State → Type 0
 StepDecided call (step.NewSwarm m) s = Decided call m.sender (id_of m.id) m.round.0 s m.decision
 StepDecided call (step.Broadcast m) s = OwnPush call (id_of m.id) s m.push
+StepDecided call (step.DispatchLazyPush rows) s = NotedBack call s rows.now
 StepDecided call _ s = Unit {0}
+
+-- these are the rows of the queue that an event has handed back and noted, if it is a dispatch tick
+abbrev pub NotedFor : Call → Read → State → List ℕ → Type 0
+NotedFor call e s rows = e ≡ read.Timer DispatchLazyPush → NotedBack call s rows
 
 -- the peer of an event: a received message's sender; 0 for the others
 abbrev pub peer_of : Event → ℕ

@@ -21,7 +21,7 @@ use Rattle.decide.specs.Settled.{alive_value, settled}
 use Rattle.decide.proofs.SettledLaws.{get-later}
 use Rattle.steps.specs.Shared.{HeldAt, EntryIs}
 use Rattle.std.specs.Prelude.{Option as Answer}
-use Rattle.steps.specs.Settled.Then.{no_held, no_cached, no_grafts, left_then}
+use Rattle.steps.specs.Settled.Then.{no_held, no_cached, no_grafted, left_then}
 
 -- the settled state, where `init` is set and where it is not
 module _ (now : ℕ) (s : State) where
@@ -55,8 +55,8 @@ module _ (now : ℕ) (h : Head) (xs : List ℕ) (id : ℕ) (r : Answer ℕ) wher
   cached_entry e = subst (λ (c : Cache Cached). EntryIs no_cached (state_of h xs).cache.entries id (get id c) r) (sym (settled_cache now h xs)) (e no_cached)
 
   pub grafted_entry : ((d : Entry (Timed Grafts)) → EntryIs d (state_of h xs).grafted.entries id (get id (left_then h.live.init now (state_of h xs).grafted)) r)
-      → EntryIs no_grafts (state_of h xs).grafted.entries id (get id (settled now (state_of h xs)).grafted) r
-  grafted_entry e = subst (λ (c : Cache Grafts). EntryIs no_grafts (state_of h xs).grafted.entries id (get id c) r) (sym (settled_grafted now h xs)) (e no_grafts)
+      → EntryIs no_grafted (state_of h xs).grafted.entries id (get id (settled now (state_of h xs)).grafted) r
+  grafted_entry e = subst (λ (c : Cache Grafts). EntryIs no_grafted (state_of h xs).grafted.entries id (get id c) r) (sym (settled_grafted now h xs)) (e no_grafted)
 
 -- what is found of a key among the entries of a block
 module _ (c : TimeBoundCache) (xs : List ℕ) (sound : Sound c xs) (init : Bool) (now id : ℕ) where

@@ -1,5 +1,5 @@
 // Link numbers of one byte after a link came in, and after one went, with the rows beside them.
-ghost use Rattle.std.specs.Prelude.{◌≡◌, ◌+◌, ◌*◌, ◌≤◌, ◌<◌, length};
+ghost use Rattle.std.specs.Prelude.{◌≡◌, ℕ, ◌+◌, ◌*◌, ◌≤◌, ◌<◌, length};
 ghost use Rattle.storage.specs.Rows.Part.{part};
 ghost use Rattle.storage.specs.Refs.Refs.{shifted, Below};
 ghost use Rattle.storage.specs.Refs.Numbers.{raised, lowered, lower_all, entries};
@@ -7,24 +7,32 @@ ghost use Rattle.storage.specs.Refs.Numbers.{raised, lowered, lower_all, entries
 use crate::refs::wide;
 use crate::rows::table;
 
+// i as a byte, as numbers below 255 are compared with it: where it is none, it is above them all.
+fn first_raised(i: usize) -> u8
+    ensures { (number : ℕ) → number < 255 → shifted result number ≡ shifted i number }
+{
+    if i < 255 { i as u8 } else { 255 }
+}
+
 // A link number after a link came in at i.
-fn raise(number: u8, i: usize) -> u8
+fn raise(number: u8, i: u8) -> u8
     requires { number < 255 }
     ensures { result ≡ shifted i number }
 {
-    if (number as usize) < i {
+    if number < i {
         return number;
     }
     number + 1
 }
 
-// The n link numbers at `at`, after a link came in at i.
+// The n link numbers at `at`, after a link came in at i. They are compared as bytes, so that many are raised at once.
 pub fn raise_numbers(bytes: &mut [u8], at: usize, n: usize, i: usize)
     requires { (at + n ≤ length bytes.old) × Below 255 (part at n bytes.old) }
     ensures { bytes.new ≡ raised i at n bytes.old }
 {
+    let first = first_raised(i);
     for j in 0..n {
-        bytes[at + j] = raise(bytes[at + j], i);
+        bytes[at + j] = raise(bytes[at + j], first);
     }
 }
 

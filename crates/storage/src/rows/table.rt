@@ -1,5 +1,5 @@
 // Tables: n rows of `stride` bytes each, at the start of a slice.
-ghost use Rattle.std.specs.Prelude.{◌≡◌, ◌+◌, ◌*◌, ◌≤◌, ◌<◌, length};
+ghost use Rattle.std.specs.Prelude.{◌≡◌, ◌+◌, ◌-◌, ◌*◌, ◌≤◌, ◌<◌, length};
 ghost use Rattle.storage.specs.Lists.Base.{filter};
 ghost use Rattle.storage.specs.Rows.Part.{part, put};
 ghost use Rattle.storage.specs.Rows.Rows.{rows, differs, opened, closed};
@@ -7,13 +7,54 @@ ghost use Rattle.storage.specs.Rows.Sorted.{keys, TellsAscending};
 
 use crate::rows::id;
 
+// How many bytes are moved up by one copy, where there are more.
+const BLOCK: usize = 2048;
+
+// Copies the `BLOCK` bytes at `from` to `to`, which is not before it: by way of a copy of their own, which is compiled to one move.
+fn move_block(bytes: &mut [u8], from: usize, to: usize)
+    requires { (from ≤ to) × (to + BLOCK ≤ length bytes.old) }
+    ensures { bytes.new ≡ put to (part from BLOCK bytes.old) bytes.old }
+{
+    let mut block = [0; BLOCK];
+    block.copy_from_slice(&bytes[from..from + BLOCK]);
+    let place = &mut bytes[to..to + BLOCK];
+    place.copy_from_slice(&block);
+}
+
+// Copies the last of the `len` bytes at `from` to `to`, which is not before it, block by block from the last: at most `BLOCK` are left, and their number is returned.
+#[inline(never)]
+fn move_blocks(bytes: &mut [u8], from: usize, to: usize, len: usize) -> usize
+    requires { (from ≤ to) × (to + len ≤ length bytes.old) }
+    ensures { (result ≤ len) × (bytes.new ≡ put (to + result) (part (from + result) (len - result) bytes.old) bytes.old) }
+{
+    let mut left = len;
+    while left > BLOCK {
+        left -= BLOCK;
+        move_block(bytes, from + left, to + left);
+    }
+    left
+}
+
 // Copies the `len` bytes at `from` to `to`, which is not before it: from the last byte to the first, since the two may overlap.
-pub fn move_up(bytes: &mut [u8], from: usize, to: usize, len: usize)
+fn slide_up(bytes: &mut [u8], from: usize, to: usize, len: usize)
     requires { (from ≤ to) × (to + len ≤ length bytes.old) }
     ensures { bytes.new ≡ put to (part from len bytes.old) bytes.old }
 {
     for i in (0..len).rev() {
         bytes[to + i] = bytes[from + i];
+    }
+}
+
+// Copies the `len` bytes at `from` to `to`, which is not before it.
+pub fn move_up(bytes: &mut [u8], from: usize, to: usize, len: usize)
+    requires { (from ≤ to) × (to + len ≤ length bytes.old) }
+    ensures { bytes.new ≡ put to (part from len bytes.old) bytes.old }
+{
+    if len <= BLOCK {
+        slide_up(bytes, from, to, len);
+    } else {
+        let left = move_blocks(bytes, from, to, len);
+        slide_up(bytes, from, to, left);
     }
 }
 

@@ -4,4 +4,4 @@ use Rattle.announcements.proofs.OnDispatchLaws.StateLaws.{noted_first}
 use Rattle.announcements.proofs.on_dispatch_timer.note_rows.Given as goal
 
 abbrev pub invariant-loop-row : goal.invariant-loop-row
-invariant-loop-row l = Goes (noted_first l.rows.items l.row-index) l.fn.panel l.panel
+invariant-loop-row l = Goes (noted_first l.rows l.row-index) l.fn.panel l.panel

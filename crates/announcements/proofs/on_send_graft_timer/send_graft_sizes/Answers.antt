@@ -2,7 +2,7 @@
 use Rattle.announcements.proofs.Words.{arith, sym, ◌∙◌, ◌-◌, eqb, id_of, get, settled, sizes_value, shown}
 use mir.Val.{bool_byte}
 use Rattle.block.proofs.CachesLaws.GraftedLaws.{count-grafted, count-grafted-rows}
-use Rattle.steps.specs.Settled.Then.{no_grafts}
+use Rattle.steps.specs.Settled.Then.{no_grafted}
 use Rattle.announcements.proofs.OnSendGraftTimerLaws.{entry-there, entry-gone, marks-fewer, marks-left, missing-fewer, missing-left, sized-received, sized-nobody, sized-there, sized-new, sized-few}
 use Rattle.announcements.proofs.on_send_graft_timer.send_graft_sizes.Goals as goal
 
@@ -45,7 +45,7 @@ returns-then-is_some c =
     sized-there now i s c.requires (z.timers - bool_byte c.has_timer.result) (marks-left now i s c.requires z w c.has_timer.result c.has_timer.ensures)
     (sym c.is_received_then.ensures ∙ c.if-is_received_then.false) c.in-Some.entry (z.missing - bool_byte (eqb n 1)) c.in-Some.ensures
     (missing-left now i s c.requires z w c.in-Some.entry n c.in-Some.ensures.below c.announcer_count.ensures.0) (sizes_value z) w
-    (entry-there no_grafts s.grafted.entries i (get i (settled now s).grafted) c.grafted_entry_then.result c.grafted_entry_then.ensures (sym c.is_some.ensures ∙ c.if-is_some.true))
+    (entry-there no_grafted s.grafted.entries i (get i (settled now s).grafted) c.grafted_entry_then.result c.grafted_entry_then.ensures (sym c.is_some.ensures ∙ c.if-is_some.true))
 
 pub overflow_add-sizes : goal.overflow_add-sizes
 overflow_add-sizes c =
@@ -70,4 +70,4 @@ returns c =
     sized-new now i s c.requires (z.timers - bool_byte c.has_timer.result) (marks-left now i s c.requires z w c.has_timer.result c.has_timer.ensures)
     (sym c.is_received_then.ensures ∙ c.if-is_received_then.false) c.in-Some.entry (z.missing - bool_byte (eqb n 1)) c.in-Some.ensures
     (missing-left now i s c.requires z w c.in-Some.entry n c.in-Some.ensures.below c.announcer_count.ensures.0) (sizes_value z) w
-    (entry-gone no_grafts s.grafted.entries i (get i (settled now s).grafted) c.grafted_entry_then.result c.grafted_entry_then.ensures (sym c.is_some.ensures ∙ c.if-is_some.false))
+    (entry-gone no_grafted s.grafted.entries i (get i (settled now s).grafted) c.grafted_entry_then.result c.grafted_entry_then.ensures (sym c.is_some.ensures ∙ c.if-is_some.false))

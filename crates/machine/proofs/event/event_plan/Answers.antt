@@ -3,6 +3,7 @@ use Rattle.machine.proofs.Words.{◌≡◌, ℕ, ap, sym, ◌∙◌, refl, arith
 use Rattle.machine.specs.declared.Stats.{Stats}
 use Rattle.postcard.specs.Message.{Event}
 use Rattle.wire.specs.declared.reader.event.Event.{Event as Read}
+use Rattle.wire.specs.declared.reader.event.Event.TheVariants as read
 use Rattle.protocol.specs.Answer.{counts_stay}
 use Rattle.steps.specs.Calls.{rooms_of}
 use Rattle.machine.specs.Called.{counts_of}
@@ -77,7 +78,7 @@ step_plan-requires-in-Broadcast c =
 pub step_plan-requires-in-Timer : goal.step_plan-requires-in-Timer
 step_plan-requires-in-Timer c =
     let s = shown c.args.view.now in
-    askable (goal.at.step_plan-requires-in-Timer c).Start c.timer_step.result (Fired (timer_value c.in-Timer.timer)) (sym (ap event_peer c.in-Timer.is)) (c.timer_step.ensures.means c.args.call.now.instant.0 s c.requires.0.consistent.core) (c.timer_step.ensures.decided c.args.call.now (settled c.args.call.now.instant.0 s))
+    askable (goal.at.step_plan-requires-in-Timer c).Start c.timer_step.result (Fired (timer_value c.in-Timer.timer)) (sym (ap event_peer c.in-Timer.is)) (c.timer_step.ensures.means c.args.call.now.instant.0 s c.requires.0.consistent.core) (c.timer_step.ensures.decided c.args.call.now (settled c.args.call.now.instant.0 s) (λ h. c.requires.4 (c.in-Timer.is ∙ ap read.Timer h)))
 
 pub returns-in-Some-clause-plan : goal.returns-in-Some-clause-plan
 returns-in-Some-clause-plan c =

@@ -9,18 +9,18 @@ use Rattle.steps.proofs.SettledLaws.SizeLaws.{yes, no}
 use Rattle.machine.proofs.event.read_event.Goals as goal
 use Rattle.machine.proofs.event.read_event.Goals.{Else-instant}
 
-pub returns-then-not-is_whole-clause-means : goal.returns-then-not-is_whole-clause-means
+pub returns-then-not-is_whole_of-clause-means : goal.returns-then-not-is_whole_of-clause-means
 unfolding begun
-returns-then-not-is_whole-clause-means c = rw (no c.is_whole.ensures (ap not c.if-not-is_whole.true)) refl
+returns-then-not-is_whole_of-clause-means c = rw (no c.is_whole_of.ensures (ap not c.if-not-is_whole_of.true)) refl
 
 pub returns-then-instant-clause-means : goal.returns-then-instant-clause-means
 unfolding begun
-returns-then-instant-clause-means c = rw (yes c.is_whole.ensures (ap not c.if-not-is_whole.false), lt-leb c.args.instant.0 (2 ^ 62) c.if-instant.true) refl
+returns-then-instant-clause-means c = rw (yes c.is_whole_of.ensures (ap not c.if-not-is_whole_of.false), lt-leb c.args.instant.0 (2 ^ 62) c.if-instant.true) refl
 
 -- questions 5 and 6 were answered yes
 begins : (c : Else-instant) → begun c.args.block.now c.args.instant.0 c.args.event.now ≡ decode_event c.args.event.now
 unfolding begun
-begins c = rw (yes c.is_whole.ensures (ap not c.if-not-is_whole.false), le-leb c.args.instant.0 (2 ^ 62) c.if-instant.false) refl
+begins c = rw (yes c.is_whole_of.ensures (ap not c.if-not-is_whole_of.false), le-leb c.args.instant.0 (2 ^ 62) c.if-instant.false) refl
 
 pub returns-in_err-decode_event-clause-means : goal.returns-in_err-decode_event-clause-means
 returns-in_err-decode_event-clause-means c =

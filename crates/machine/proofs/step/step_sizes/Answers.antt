@@ -28,6 +28,11 @@ broadcast_sizes-requires c =
     let k = known (goal.at.broadcast_sizes-requires c).Start c.in-Broadcast.is in
     (k.rest, k.decided)
 
+pub dispatch_sizes-requires : goal.dispatch_sizes-requires
+dispatch_sizes-requires c =
+    let k = known (goal.at.dispatch_sizes-requires c).Start c.in-DispatchLazyPush.is in
+    (k.rest, k.decided)
+
 pub returns-in-Graft : goal.returns-in-Graft
 unfolding step_state
 returns-in-Graft c = c.graft_sizes.ensures ∙ as_step (goal.at.returns-in-Graft c).Start c.in-Graft.is

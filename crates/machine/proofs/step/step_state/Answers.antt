@@ -4,6 +4,7 @@ use Rattle.block.specs.declared.panel.Panel.{Panel}
 use Rattle.machine.specs.Kinds.Meaning.{step_state, step_far}
 use Rattle.machine.specs.declared.kinds.Step.{Step}
 use Rattle.machine.specs.Steps.{after_step, Ready}
+use Rattle.announcements.proofs.OnDispatchLaws.StateLaws.{noted-room}
 use Rattle.machine.proofs.StepLaws.{others-still}
 use Rattle.machine.proofs.step.step_state.Goals as goal
 use Rattle.machine.proofs.step.step_state.Goals.{Start}
@@ -56,7 +57,7 @@ pub on_dispatch_timer-requires : goal.on_dispatch_timer-requires
 unfolding step_state
 on_dispatch_timer-requires c =
     let k = known (goal.at.on_dispatch_timer-requires c).Start c.in-DispatchLazyPush.is in
-    (record { rest = k.allowed.rest; fits = k.allowed.fits }, k.begun)
+    record { rows = k.decided.among; room = noted-room c.args.call.now (state c.args.panel.now) c.in-DispatchLazyPush.noted.now k.allowed.fits k.decided }
 
 pub on_announce_dropped_timer-requires : goal.on_announce_dropped_timer-requires
 unfolding step_state
@@ -102,7 +103,9 @@ returns-in-SendGraft c = goes (goal.at.returns-in-SendGraft c).Start c.in-SendGr
 
 pub returns-in-DispatchLazyPush : goal.returns-in-DispatchLazyPush
 unfolding step_state
-returns-in-DispatchLazyPush c = goes (goal.at.returns-in-DispatchLazyPush c).Start c.in-DispatchLazyPush.is c.on_dispatch_timer.ensures
+returns-in-DispatchLazyPush c =
+    let s = (goal.at.returns-in-DispatchLazyPush c).Start in
+    goes s c.in-DispatchLazyPush.is (c.on_dispatch_timer.ensures c.args.call.now (known s c.in-DispatchLazyPush.is).decided)
 
 pub returns-in-EvictCache : goal.returns-in-EvictCache
 unfolding step_state

@@ -1,15 +1,15 @@
 -- `keep_sender` meets its contract: by the entry that is found, if there is one.
 use Rattle.payloads.proofs.Words.{None, ◌≡◌, ◌∙◌, refl, id_of, get, State, settled, state, HeldAt, grafted-order, same-state}
 use Rattle.std.proofs.Common.{subst}
-use Rattle.steps.specs.Settled.Then.{no_grafts}
+use Rattle.steps.specs.Settled.Then.{no_grafted}
 use Rattle.payloads.proofs.OnLateGraftReplyLaws.{kept-none, kept-some}
 use Rattle.payloads.proofs.on_late_graft_reply.keep_sender.Goals as goal
 use Rattle.payloads.proofs.on_late_graft_reply.keep_sender.Goals.{In-Some}
 
 -- the entry, of the panel
-found : (c : In-Some) → HeldAt no_grafts (state c.args.panel.now).grafted.entries (id_of c.args.copy.id) (get (id_of c.args.copy.id) (settled c.args.call.now.instant.0 (state c.args.panel.now)).grafted) c.in-Some.entry
+found : (c : In-Some) → HeldAt no_grafted (state c.args.panel.now).grafted.entries (id_of c.args.copy.id) (get (id_of c.args.copy.id) (settled c.args.call.now.instant.0 (state c.args.panel.now)).grafted) c.in-Some.entry
 found c =
-    subst (λ (s : State). HeldAt no_grafts s.grafted.entries (id_of c.args.copy.id) (get (id_of c.args.copy.id) (settled c.args.call.now.instant.0 s).grafted) c.in-Some.entry)
+    subst (λ (s : State). HeldAt no_grafted s.grafted.entries (id_of c.args.copy.id) (get (id_of c.args.copy.id) (settled c.args.call.now.instant.0 s).grafted) c.in-Some.entry)
     (same-state c.args.panel.now c.view.result c.view.ensures.head c.view.ensures.block) c.in-Some.ensures
 
 pub keep_sender-requires : goal.keep_sender-requires

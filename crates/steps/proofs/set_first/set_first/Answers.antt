@@ -1,7 +1,7 @@
 -- The entry that is found, if there is one.
 use Rattle.steps.proofs.Words.{None, ◌≡◌, ◌∙◌, refl, id_of, get, State, settled, state, same-state}
 use Rattle.std.proofs.Math.Path.{subst}
-use Rattle.steps.specs.Settled.Then.{no_grafts}
+use Rattle.steps.specs.Settled.Then.{no_grafted}
 use Rattle.steps.specs.Shared.{HeldAt}
 use Rattle.steps.proofs.AtRestLaws.{grafted-order}
 use Rattle.steps.proofs.SetFirstLaws.{first-some, first-none}
@@ -9,9 +9,9 @@ use Rattle.steps.proofs.set_first.set_first.Goals as goal
 use Rattle.steps.proofs.set_first.set_first.Goals.{In-Some}
 
 -- the entry, of the panel
-found : (c : In-Some) → HeldAt no_grafts (state c.args.panel.now).grafted.entries (id_of c.args.id) (get (id_of c.args.id) (settled c.args.call.now.instant.0 (state c.args.panel.now)).grafted) c.in-Some.entry
+found : (c : In-Some) → HeldAt no_grafted (state c.args.panel.now).grafted.entries (id_of c.args.id) (get (id_of c.args.id) (settled c.args.call.now.instant.0 (state c.args.panel.now)).grafted) c.in-Some.entry
 found c =
-    subst (λ (s : State). HeldAt no_grafts s.grafted.entries (id_of c.args.id) (get (id_of c.args.id) (settled c.args.call.now.instant.0 s).grafted) c.in-Some.entry)
+    subst (λ (s : State). HeldAt no_grafted s.grafted.entries (id_of c.args.id) (get (id_of c.args.id) (settled c.args.call.now.instant.0 s).grafted) c.in-Some.entry)
     (same-state c.args.panel.now c.view.result c.view.ensures.head c.view.ensures.block) c.in-Some.ensures
 
 pub set_first-requires : goal.set_first-requires

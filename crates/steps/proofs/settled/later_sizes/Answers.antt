@@ -1,8 +1,15 @@
--- `later_sizes`: each number is that of the entries that expire later.
-use Rattle.steps.proofs.Words.{refl, sym, ◌∙◌, shown}
+-- `later_sizes`: where nothing is due the numbers stand; else each is that of the entries that expire later.
+use Rattle.steps.proofs.Words.{refl, sym, ap, ◌∙◌, shown}
+use Rattle.decide.specs.Sizes.{sizes_of}
 use Rattle.steps.proofs.EvictStepLaws.{evict-lengths}
 use Rattle.steps.proofs.SettledLaws.SizeLaws.{sizes-later}
+use Rattle.steps.proofs.SettledLaws.NoneDueLaws.{none-evicted}
 use Rattle.steps.proofs.settled.later_sizes.Goals as goal
+
+pub returns-then-is_none_due : goal.returns-then-is_none_due
+returns-then-is_none_due c =
+    let s = shown c.args.view.now in
+    c.sizes_now.ensures ∙ ap sizes_of (sym (none-evicted c.args.instant.0 s (sym c.is_none_due.ensures ∙ c.if-is_none_due.true)))
 
 pub returns : goal.returns
 returns c =

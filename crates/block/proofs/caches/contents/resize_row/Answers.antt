@@ -1,8 +1,5 @@
 -- `contents::resize_row` meets its contract: the contents behind move, their starts with them, and content and length are stored.
-use Rattle.block.proofs.Words.{◌≡◌, ℕ, ◌+◌, ◌≤◌, ◌<◌, arith, length, row_at}
-use Rattle.block.specs.Contents.Starts.{start_of}
-use Rattle.block.specs.Contents.CacheSteps.{cached_rows}
-use Rattle.block.proofs.ContentsLaws.Shifts.{first-row}
+use Rattle.block.proofs.Words.{refl, ℕ, ◌+◌, ◌≤◌, ◌<◌, arith, length}
 use Rattle.block.proofs.ContentsLaws.Setting.{row_ends, small, fit-1, above-1, resized}
 use Rattle.block.proofs.caches.contents.resize_row.Goals as goal
 use Rattle.block.proofs.caches.contents.resize_row.Goals.{After-start-contents, Start}
@@ -16,22 +13,19 @@ module _ (d : After-start-contents) where
   k = length s.args.content.now
 
   abbrev at : ℕ
-  at = d.start_of-start.result
+  at = d.extent_of-extent.result.start
 
   abbrev len : ℕ
-  len = d.len_of-len.result
+  len = d.extent_of-extent.result.len
 
   abbrev e : ℕ
   e = d.start-contents.result
 
-  start_is : at ≡ start_of (row_at (cached_rows s.args.head.now s.args.block.now) s.args.place)
-  start_is = first-row s.args.head.now s.args.block.now s.args.place at s.requires.there d.start_of-start.ensures
-
   ends : at + len ≤ s.args.head.now.live.contents
-  ends = omega (arith, start_is, d.len_of-len.ensures, row_ends s.args.head.now s.args.block.now s.args.content.now s.args.place s.requires.sound.0 s.requires.there s.requires.room)
+  ends = omega (arith, d.extent_of-extent.ensures, row_ends s.args.head.now s.args.block.now s.args.content.now s.args.place s.requires.sound.0 s.requires.there s.requires.room)
 
   room : s.args.head.now.live.contents + k ≤ s.args.head.now.limits.content + len
-  room = omega (arith, d.len_of-len.ensures, s.requires.room)
+  room = omega (arith, d.extent_of-extent.ensures, s.requires.room)
 
   low : e ≤ 2000000
   low = omega (arith, (d.start-contents.ensures _ s.requires.sound.1), s.requires.sound.0.fit.ceilings)
@@ -87,11 +81,11 @@ shift_rows-requires c =
     let xs = t.args.block.now in
     let content = t.args.content.now in
     let from = c.start-contents.ensures _ t.requires.sound.1 in record {
-      fit = (fit-1 h xs content t.args.place t.requires.sound.0 t.requires.there t.requires.room (at d) (len d) (e d) (start_is d) c.len_of-len.ensures from c.move_bytes.new.bytes c.move_bytes.ensures c.move_bytes.auto.bytes, t.requires.sound.1);
+      fit = (fit-1 h xs content t.args.place t.requires.sound.0 t.requires.there t.requires.room (at d) (len d) (e d) c.extent_of-extent.ensures.start c.extent_of-extent.ensures.len from c.move_bytes.new.bytes c.move_bytes.ensures c.move_bytes.auto.bytes, t.requires.sound.1);
       there = omega (arith, t.requires.there);
       above = (
         small h xs content t.args.place t.requires.sound.0 t.requires.there t.requires.room,
-        above-1 h xs content t.args.place t.requires.sound.0 t.requires.there t.requires.room (at d) (len d) (e d) (start_is d) c.len_of-len.ensures from c.move_bytes.new.bytes c.move_bytes.ensures c.move_bytes.auto.bytes,
+        above-1 h xs content t.args.place t.requires.sound.0 t.requires.there t.requires.room (at d) (len d) (e d) c.extent_of-extent.ensures.start c.extent_of-extent.ensures.len from c.move_bytes.new.bytes c.move_bytes.ensures c.move_bytes.auto.bytes,
       );
     }
 
@@ -105,6 +99,11 @@ copy_bytes-requires c =
     let d = (goal.at.copy_bytes-requires c).After-start-contents in
     omega (arith, ends d, room d, top d, c.shift_rows.auto.block, c.move_bytes.auto.bytes)
 
+pub overflow_cast-len-2 : goal.overflow_cast-len-2
+overflow_cast-len-2 c =
+    let t = s (goal.at.overflow_cast-len-2 c).After-start-contents in
+    omega (arith, small t.args.head.now t.args.block.now t.args.content.now t.args.place t.requires.sound.0 t.requires.there t.requires.room)
+
 pub overflow_sub-head : goal.overflow_sub-head
 overflow_sub-head c =
     omega (arith, ends (goal.at.overflow_sub-head c).After-start-contents)
@@ -113,5 +112,5 @@ pub returns : goal.returns
 returns c =
     let d = (goal.at.returns c).After-start-contents in
     let t = s d in
-    resized t.args.head.now t.args.block.now t.args.content.now t.args.place t.requires.sound.0 t.requires.there t.requires.room (at d) (len d) (e d) (start_is d) c.len_of-len.ensures (c.start-contents.ensures _ t.requires.sound.1) c.move_bytes.new.bytes c.move_bytes.ensures c.move_bytes.auto.bytes
-    c.shift_rows.new.block c.shift_rows.ensures c.shift_rows.auto.block c.copy_bytes.new.out c.copy_bytes.ensures c.copy_bytes.auto.out c.start.result (c.start.ensures _ t.requires.sound.1) c.store_le.new.bytes c.store_le.ensures c.store_le.auto.bytes
+    resized t.args.head.now t.args.block.now t.args.content.now t.args.place t.requires.sound.0 t.requires.there t.requires.room (at d) (len d) (e d) c.extent_of-extent.ensures.start c.extent_of-extent.ensures.len (c.start-contents.ensures _ t.requires.sound.1) c.move_bytes.new.bytes c.move_bytes.ensures c.move_bytes.auto.bytes
+    c.shift_rows.new.block c.shift_rows.ensures c.shift_rows.auto.block c.copy_bytes.new.out c.copy_bytes.ensures c.copy_bytes.auto.out _ refl refl c.set_extent.new.block c.set_extent.ensures c.set_extent.auto.block

@@ -1,29 +1,21 @@
 -- The two tables are left to `expire_until`.
-use Rattle.block.proofs.Words.{refl, sym, subst, Lies, Expires, TimeBoundCache}
-use Rattle.time_cache.specs.Tables.{Sound}
+use Rattle.block.proofs.Words.{refl, sym, subst}
 use Rattle.block.specs.Becomes.{Becomes}
-use Rattle.block.specs.Heads.{with_grafted_counts}
 use Rattle.block.specs.Caches.InBlock.{grafted_left}
-use Rattle.block.proofs.CachesLaws.GraftedLaws.{grafted-lies, grafted-sound, grafted-expired}
+use Rattle.block.specs.declared.head.Head.{Head}
+use Rattle.block.proofs.CachesLaws.GraftedLaws.{grafted-expired}
 use Rattle.block.proofs.panel.Panel.expire_grafted.Goals as goal
-use Rattle.block.proofs.panel.Panel.expire_grafted.Goals.{After-expire_until-expired}
+use Rattle.block.proofs.panel.Panel.expire_grafted.Goals.{After-expire}
 
-pub expire_until-expired-requires-clause-lies : goal.expire_until-expired-requires-clause-lies
-expire_until-expired-requires-clause-lies c =
-    let p = c.args.self.now in
-    subst (λ (t : TimeBoundCache). Lies t p.block.now × Sound t p.block.now) (sym c.tables-cache.ensures.at)
-    (grafted-lies p.head p.block.now p.sound.fit, grafted-sound p.head p.block.now p.sound c.requires)
-
-goes : (c : After-expire_until-expired) → let p = c.args.self.now in let r = c.expire_until-expired.result in
-    Becomes (grafted_left c.args.instant.0) p.head p.block.now (with_grafted_counts r.cache.entries.len r.cache.expiry.len p.head) c.expire_until-expired.new.block
+goes : (c : After-expire) → let p = c.args.self.now in Becomes (grafted_left c.args.instant.0) p.head p.block.now c.expire.new.head c.expire.new.block
 goes c =
     let p = c.args.self.now in
-    let r = c.expire_until-expired in
-    grafted-expired p.head p.block.now r.new.block c.args.instant.0 r.result p.sound r.auto.block
-    (subst (λ (t : TimeBoundCache). Expires t c.args.instant.0 p.block.now r.result r.new.block) c.tables-cache.ensures.at r.ensures.left)
+    let r = c.expire in
+    subst (λ (h : Head). Becomes (grafted_left c.args.instant.0) p.head p.block.now h r.new.block) (sym r.ensures.counts)
+    (grafted-expired p.head p.block.now r.new.block c.args.instant.0 r.result p.sound r.auto.block r.ensures.expires)
 
-pub invariant_of-self-2-clause-sound : goal.invariant_of-self-2-clause-sound
-invariant_of-self-2-clause-sound c = (goes (goal.at.invariant_of-self-2-clause-sound c).After-expire_until-expired).sound
+pub invariant_of-self-clause-sound : goal.invariant_of-self-clause-sound
+invariant_of-self-clause-sound c = (goes (goal.at.invariant_of-self-clause-sound c).After-expire).sound
 
 pub returns : goal.returns
-returns c = record { state = (goes (goal.at.returns c).After-expire_until-expired).state; loan = refl }
+returns c = record { state = (goes (goal.at.returns c).After-expire).state; loan = refl }

@@ -1,9 +1,19 @@
--- `lower::drop_in_list`: the numbers and rounds after the count, then the count.
+-- `lower::drop_in_list`: the numbers alone where i is not among them; else the numbers and rounds after the count, then the count.
 use Rattle.block.proofs.Words.{◌≡◌, sym, ap, ◌∙◌, subst, List, ◌++◌, ℕ, ◌-◌, length, take, drop, set, take_all, arith, lower_all, entries}
 use Rattle.std.proofs.Common.{length-drop}
 use Rattle.block.specs.Neighbours.Lowered.{listed_of, lower_listed}
+use Rattle.block.specs.Neighbours.Lowered.{NoneFrom}
 use Rattle.block.proofs.NeighboursLaws.LoweredRows.{list-after, list-lowered}
+use Rattle.block.proofs.NeighboursLaws.LoweredRuns.{list-kept}
 use Rattle.block.proofs.renumber.lower.drop_in_list.Goals as goal
+
+pub returns-then-run_end-end : goal.returns-then-run_end-end
+returns-then-run_end-end c =
+    let n = c.count-n in
+    let list = c.args.list.now in
+    let i = c.args.i in
+    ap (listed_of 0) c.lower_numbers.ensures
+    ∙ list-kept i n.result list c.requires.0 n.ensures.0 (omega (arith, n.ensures.0, c.requires.1)) (subst (λ (k : ℕ). NoneFrom i 1 k list) c.if-run_end-end.true c.run_end.ensures.others)
 
 pub returns : goal.returns
 returns c =

@@ -30,8 +30,8 @@ pub drop_in_rows-requires : goal.drop_in_rows-requires
 drop_in_rows-requires c =
     let d = (goal.at.drop_in_rows-requires c).After-span-record_rows in
     let a = c.args in
-    let n1 = c.drop_number-head in
-    let n2 = c.drop_number-head-2 in
+    let n1 = c.drop_notes-head in
+    let n2 = c.drop_notes-head-2 in
     let asks = third-asks a.head.now a.block.now c.requires.sound.0 c.requires.sound.1 a.i c.requires.there _ (queue d) (record-start d) n1.new.bytes n1.result _ n1.auto.bytes (queue-rows d) n1.ensures
     _ (record-start d) (record-end d) n2.new.bytes n2.result _ n2.auto.bytes (record-rows d) n2.ensures _ (c.span.ensures _ c.requires.layout) in
     (omega arith, asks.0, asks.1)
@@ -40,8 +40,8 @@ pub drop_announcers-head-requires : goal.drop_announcers-head-requires
 drop_announcers-head-requires c =
     let d = (goal.at.drop_announcers-head-requires c).After-span-record_rows in
     let a = c.args in
-    let n1 = c.drop_number-head in
-    let n2 = c.drop_number-head-2 in
+    let n1 = c.drop_notes-head in
+    let n2 = c.drop_notes-head-2 in
     let n3 = c.drop_in_rows in
     fourth-asks a.head.now a.block.now c.requires.sound.0 c.requires.sound.1 a.i c.requires.there _ (queue d) (record-start d) n1.new.bytes n1.result _ n1.auto.bytes (queue-rows d) n1.ensures
     _ (record-start d) (record-end d) n2.new.bytes n2.result _ n2.auto.bytes (record-rows d) n2.ensures _ (c.span.ensures _ c.requires.layout) n3.new.bytes n3.auto.bytes n3.ensures _ (c.span-2.ensures _ c.requires.layout)
@@ -50,8 +50,8 @@ pub returns : goal.returns
 returns c =
     let d = (goal.at.returns c).After-span-record_rows in
     let a = c.args in
-    let n1 = c.drop_number-head in
-    let n2 = c.drop_number-head-2 in
+    let n1 = c.drop_notes-head in
+    let n2 = c.drop_notes-head-2 in
     let n3 = c.drop_in_rows in
     let n4 = c.drop_announcers-head in
     all-steps a.head.now a.block.now c.requires.sound.0 c.requires.sound.1 a.i c.requires.there _ (queue d) (record-start d) n1.new.bytes n1.result _ n1.auto.bytes (queue-rows d) n1.ensures

@@ -29,7 +29,9 @@ pub loop-j-preserved : goal.loop-j-preserved
 loop-j-preserved c =
     let l = c.loop-j in
     let xs = c.args.bytes.now in
-    let e : c.raise.result ≡ shifted c.args.i (get_or xs (c.args.at + l.j) 0) = c.raise.ensures ∙ ap (shifted c.args.i) (was (goal.at.loop-j-preserved c).After-slice_known-in-loop-j-1).0 in (
+    let w = was (goal.at.loop-j-preserved c).After-slice_known-in-loop-j-1 in
+    let e : c.raise.result ≡ shifted c.args.i (get_or xs (c.args.at + l.j) 0) =
+    c.raise.ensures ∙ c.first_raised-first.ensures (get_or l.bytes (c.args.at + l.j) 0) (omega (arith, w.0, w.1)) ∙ ap (shifted c.args.i) w.0 in (
       (λ z. set (l.invariant.0 z) (c.args.at + l.j) (e z)) ∙ raised-more c.args.i c.args.at xs l.j (omega (arith, c.loop-j-test.true, c.requires.0)),
       length-set l.bytes (c.args.at + l.j) c.raise.result ∙ l.invariant.1,
     )

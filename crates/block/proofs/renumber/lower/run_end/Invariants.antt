@@ -1,0 +1,6 @@
+-- `lower::run_end`: the numbers before j are others.
+use Rattle.block.specs.Neighbours.Lowered.{NoneFrom}
+use Rattle.block.proofs.renumber.lower.run_end.Given as goal
+
+abbrev pub invariant-loop-j : goal.invariant-loop-j
+invariant-loop-j l = NoneFrom l.i l.from l.j l.bytes

@@ -11,6 +11,10 @@ fi
 "$root/tools/staticlib.sh" exports >/dev/null
 export CARGO_TARGET_DIR="$root/target/bench/blake3"
 export RUSTFLAGS="-L native=$root/target/staticlib -A warnings"
+mkdir -p "$root/target/bench"
+rm -rf "$root/target/bench/blake3_sse2"
+cp -r /usr/share/cargo/registry/blake3-1.3.1 "$root/target/bench/blake3_sse2"
+sed -i '0,/^version = "1.3.1"$/s//version = "1.3.1+sse2"/' "$root/target/bench/blake3_sse2/Cargo.toml"
 cd "$here"
 cargo build --release --offline -q --config 'source.crates-io.replace-with="debian"' \
     --config 'source.debian.directory="/usr/share/cargo/registry"'

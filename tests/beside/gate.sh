@@ -1,6 +1,6 @@
 #!/usr/bin/env bash
 # Runs the proved library beside the Rust: 220,000 calls, compared after each, the messages of these calls rewritten, and states saved and returned to between them. The first run's seed is fixed, and it takes every path of
-# the table; the second's is printed, and SEED sets it. Then 2,000 calls under valgrind.
+# the table; the second's is printed, and SEED sets it. Before them question 5 of records whose identifiers are chosen, so that it goes each of its ways; then 2,000 calls under valgrind.
 set -eu
 cd "$(dirname "$0")/../.."
 . tools/setup.sh
@@ -10,6 +10,7 @@ need_packages valgrind
 LIBRARY=$PLUMTREE_LIB_DIR tests/beside/build.sh
 beside=tests/target/release/beside
 $beside --check crates/beside_sample/stdin
+$beside --records
 $beside --brief --seed 7 --calls 160000 --every-path
 $beside --brief --seed "${SEED:-$(date +%s)}" --calls 60000
 

@@ -1,4 +1,4 @@
-// Times of the identifier beside Debian's blake3 crate, portable and with its vector code: bench_blake3 [SECONDS for each size].
+// Times of the identifier beside Debian's blake3 crate, portable, with its code for SSE2 and with all of its vector code: bench_blake3 [SECONDS for each size].
 mod turns;
 
 #[link(name = "exports", kind = "static")]
@@ -18,22 +18,28 @@ fn portable(content: &[u8]) -> [u8; 32] {
     blake3_portable::hash(content).into()
 }
 
+fn sse2(content: &[u8]) -> [u8; 32] {
+    blake3_sse2::hash(content).into()
+}
+
 fn vector(content: &[u8]) -> [u8; 32] {
     blake3_vector::hash(content).into()
 }
 
 type Hash = fn(&[u8]) -> [u8; 32];
-const IMPLEMENTATIONS: [Hash; 3] = [rattle, portable, vector];
+const IMPLEMENTATIONS: [Hash; 4] = [rattle, portable, sse2, vector];
 
 fn main() {
     let seconds: u64 = std::env::args().nth(1).map_or(4, |s| s.parse().expect("a number of seconds"));
     let bytes = turns::bytes();
     turns::compare(&IMPLEMENTATIONS, &bytes);
-    println!("| bytes | Rattle, ns | portable, ns | vector, ns | Rattle / portable | Rattle / vector |");
-    println!("|---:|---:|---:|---:|---:|---:|");
+    println!("| bytes | Rattle, ns | portable, ns | SSE2, ns | vector, ns | Rattle / portable | Rattle / SSE2 | Rattle / vector |");
+    println!("|---:|---:|---:|---:|---:|---:|---:|---:|");
     for size in turns::SIZES {
-        let times = turns::least(&IMPLEMENTATIONS, &bytes[..size], seconds);
-        let (r, p, v) = (times[0], times[1], times[2]);
-        println!("| {size} | {r:.1} | {p:.1} | {v:.1} | {:.2} | {:.2} |", r / p, r / v);
+        // The vector code by itself: what runs right behind its wide registers is slower for it.
+        let times = turns::least(&IMPLEMENTATIONS[..3], &bytes[..size], seconds);
+        let (r, p, s) = (times[0], times[1], times[2]);
+        let v = turns::least(&IMPLEMENTATIONS[3..], &bytes[..size], seconds)[0];
+        println!("| {size} | {r:.1} | {p:.1} | {s:.1} | {v:.1} | {:.2} | {:.2} | {:.2} |", r / p, r / s, r / v);
     }
 }

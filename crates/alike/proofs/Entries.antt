@@ -12,8 +12,8 @@ use Rattle.block.specs.declared.panel.View.{View}
 use Rattle.block.specs.TimeCaches.{received_cache, grafted_cache, cached_cache}
 use Rattle.alike.specs.Elements.{same_element}
 use Rattle.alike.specs.Rows.{same_entry, same_timed, same_row, same_rows, rows_of}
-use Rattle.alike.specs.declared.tables.Table.{Table}
-use Rattle.alike.specs.declared.tables.Table.TheVariants.{Links, Missing, Timers, Received, Grafted, Cached as CachedRows}
+use Rattle.alike.specs.declared.tables.RowTable.{RowTable}
+use Rattle.alike.specs.declared.tables.RowTable.TheVariants.{Links, Missing, Timers, Received, Grafted, Cached as CachedRows}
 use Rattle.alike.proofs.Lists.{no-round, list-yes, list-no, list_length}
 use Rattle.alike.proofs.BlockReads.{key_of, count-read}
 use Rattle.block.specs.Caches.Standing.{StandsIn}
@@ -71,7 +71,7 @@ asked t u xs c i s e b q = (s.lies, subst (λ (w : TimeBoundCache). Below w.expi
 
 -- all rows of a table
 module _ (s u : State) where
-  pub rows-yes : (t : Table) → rows_of t s ≡ rows_of t u → ((k : ℕ) → k < rows_of t s → same_row t s u k ≡ true) → same_rows t s u ≡ true
+  pub rows-yes : (t : RowTable) → rows_of t s ≡ rows_of t u → ((k : ℕ) → k < rows_of t s → same_row t s u k ≡ true) → same_rows t s u ≡ true
   unfolding same_map
   rows-yes Links e h = list-yes (same_entry same_mark) (entry 0 eager) s.links u.links e h
   rows-yes Missing e h = list-yes (same_entry (same_list same_hop)) (entry 0 []) s.missing u.missing e h
@@ -80,7 +80,7 @@ module _ (s u : State) where
   rows-yes Grafted e h = list-yes (same_entry (same_timed same_grafts)) no_grafted s.grafted.entries u.grafted.entries e h
   rows-yes CachedRows e h = list-yes (same_entry (same_timed same_cached)) no_cached s.cache.entries u.cache.entries e h
 
-  pub rows-no : (t : Table) (k : ℕ) → k < rows_of t s → k < rows_of t u → same_row t s u k ≡ false → same_rows t s u ≡ false
+  pub rows-no : (t : RowTable) (k : ℕ) → k < rows_of t s → k < rows_of t u → same_row t s u k ≡ false → same_rows t s u ≡ false
   unfolding same_map
   rows-no Links k p q e = list-no (same_entry same_mark) (entry 0 eager) s.links u.links k p q e
   rows-no Missing k p q e = list-no (same_entry (same_list same_hop)) (entry 0 []) s.missing u.missing k p q e
@@ -89,7 +89,7 @@ module _ (s u : State) where
   rows-no Grafted k p q e = list-no (same_entry (same_timed same_grafts)) no_grafted s.grafted.entries u.grafted.entries k p q e
   rows-no CachedRows k p q e = list-no (same_entry (same_timed same_cached)) no_cached s.cache.entries u.cache.entries k p q e
 
-  pub rows-length : (t : Table) → (rows_of t s ≡ rows_of t u → ⊥) → same_rows t s u ≡ false
+  pub rows-length : (t : RowTable) → (rows_of t s ≡ rows_of t u → ⊥) → same_rows t s u ≡ false
   unfolding same_map
   rows-length Links n = list_length (same_entry same_mark) (entry 0 eager) s.links u.links n
   rows-length Missing n = list_length (same_entry (same_list same_hop)) (entry 0 []) s.missing u.missing n

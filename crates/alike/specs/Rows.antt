@@ -8,8 +8,8 @@ use Rattle.protocol.specs.Alike.{same_list, same_map, same_mark, same_hop, same_
 use Rattle.block.specs.LinkSteps.{link_at}
 use Rattle.block.specs.MissingSteps.{missed_at}
 use Rattle.block.specs.Caches.GraftSteps.{grafted_at}
-use Rattle.alike.specs.declared.tables.Table.{Table}
-use Rattle.alike.specs.declared.tables.Table.TheVariants.{Links, Missing, Timers, Received, Grafted, Cached as CachedRows}
+use Rattle.alike.specs.declared.tables.RowTable.{RowTable}
+use Rattle.alike.specs.declared.tables.RowTable.TheVariants.{Links, Missing, Timers, Received, Grafted, Cached as CachedRows}
 
 -- two entries of maps
 abbrev pub same_entry : {A : Type 0} → (A → A → Bool) → Entry A → Entry A → Bool
@@ -28,7 +28,7 @@ abbrev pub cached_entry : State → ℕ → Entry (Timed Cached)
 cached_entry s i = get_or s.cache.entries i (entry 0 (record { expires = 0; value = record { content = []; round = 0 } }))
 
 -- row i of a table of two states
-abbrev pub same_row : Table → State → State → ℕ → Bool
+abbrev pub same_row : RowTable → State → State → ℕ → Bool
 same_row Links s t i = same_entry same_mark (link_at s i) (link_at t i)
 same_row Missing s t i = same_entry (same_list same_hop) (missed_at s i) (missed_at t i)
 same_row Timers s t i = eqb (get_or s.timers.graft i 0) (get_or t.timers.graft i 0)
@@ -37,7 +37,7 @@ same_row Grafted s t i = same_entry (same_timed same_grafts) (grafted_at s i) (g
 same_row CachedRows s t i = same_entry (same_timed same_cached) (cached_entry s i) (cached_entry t i)
 
 -- all rows of it
-abbrev pub same_rows : Table → State → State → Bool
+abbrev pub same_rows : RowTable → State → State → Bool
 same_rows Links s t = same_map same_mark s.links t.links
 same_rows Missing s t = same_map (same_list same_hop) s.missing t.missing
 same_rows Timers s t = same_list eqb s.timers.graft t.timers.graft
@@ -46,7 +46,7 @@ same_rows Grafted s t = same_map (same_timed same_grafts) s.grafted.entries t.gr
 same_rows CachedRows s t = same_map (same_timed same_cached) s.cache.entries t.cache.entries
 
 -- how many rows it has
-abbrev pub rows_of : Table → State → ℕ
+abbrev pub rows_of : RowTable → State → ℕ
 rows_of Links s = length s.links
 rows_of Missing s = length s.missing
 rows_of Timers s = length s.timers.graft

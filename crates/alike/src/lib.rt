@@ -19,7 +19,7 @@ use block::head::{Limits, Settings};
 use block::note::NoteTable;
 use block::panel::View;
 use sequences::Sequence;
-use tables::Table;
+use tables::RowTable;
 
 // "own peer number, settings"
 #[tactic(auto, unfolding(protocol::specs::Alike::same_settings))]
@@ -73,11 +73,11 @@ fn same_tables(x: &View, y: &View) -> bool
     requires { (ascending (keys (shown x.now).links) ≡ true) × (ascending (keys (shown y.now).links) ≡ true) }
     ensures { result ≡ same_tables (shown x.now) (shown y.now) }
 {
-    tables::same_rows(Table::Links, x, y)
+    tables::same_rows(RowTable::Links, x, y)
         && by_link::same_notes(NoteTable::Queue, x, y)
         && by_link::same_notes(NoteTable::Record, x, y)
-        && tables::same_rows(Table::Missing, x, y)
-        && tables::same_rows(Table::Timers, x, y)
+        && tables::same_rows(RowTable::Missing, x, y)
+        && tables::same_rows(RowTable::Timers, x, y)
 }
 
 // "maps": the three time caches.
@@ -85,11 +85,11 @@ fn same_tables(x: &View, y: &View) -> bool
 fn same_caches(x: &View, y: &View) -> bool
     ensures { result ≡ same_caches (shown x.now) (shown y.now) }
 {
-    tables::same_rows(Table::Received, x, y)
+    tables::same_rows(RowTable::Received, x, y)
         && sequences::same_sequence(Sequence::ReceivedExpiry, x, y)
-        && tables::same_rows(Table::Grafted, x, y)
+        && tables::same_rows(RowTable::Grafted, x, y)
         && sequences::same_sequence(Sequence::GraftedExpiry, x, y)
-        && tables::same_rows(Table::Cached, x, y)
+        && tables::same_rows(RowTable::Cached, x, y)
         && sequences::same_sequence(Sequence::CachedExpiry, x, y)
 }
 

@@ -22,7 +22,7 @@ use time_cache::cache::TimeBoundCache;
 
 // One of the tables.
 #[derive(Clone, Copy)]
-pub enum Table {
+pub enum RowTable {
     Links,
     Missing,
     Timers,
@@ -34,7 +34,7 @@ pub enum Table {
 // A row of a table, by its number.
 #[derive(Clone, Copy)]
 struct Place {
-    table: Table,
+    table: RowTable,
     i: usize,
 }
 
@@ -101,8 +101,8 @@ fn same_key(cache_a: TimeBoundCache, a: &[u8], cache_b: TimeBoundCache, b: &[u8]
 
 // Link i: peer and mark.
 fn same_link(x: &View, y: &View, i: usize) -> bool
-    requires { (i < rows_of Table.Links (shown x.now)) × (i < rows_of Table.Links (shown y.now)) }
-    ensures { result ≡ same_row Table.Links (shown x.now) (shown y.now) i }
+    requires { (i < rows_of RowTable.Links (shown x.now)) × (i < rows_of RowTable.Links (shown y.now)) }
+    ensures { result ≡ same_row RowTable.Links (shown x.now) (shown y.now) i }
 {
     x.link(i).peer == y.link(i).peer && x.mark_at(i) == y.mark_at(i)
 }
@@ -110,24 +110,24 @@ fn same_link(x: &View, y: &View, i: usize) -> bool
 // Missing message i: identifier and announcers, "the order of announcers" too.
 #[tactic(auto, using(crate::proofs::Lists::list_hops))]
 fn same_missed(x: &View, y: &View, i: usize) -> bool
-    requires { (i < rows_of Table.Missing (shown x.now)) × (i < rows_of Table.Missing (shown y.now)) }
-    ensures { result ≡ same_row Table.Missing (shown x.now) (shown y.now) i }
+    requires { (i < rows_of RowTable.Missing (shown x.now)) × (i < rows_of RowTable.Missing (shown y.now)) }
+    ensures { result ≡ same_row RowTable.Missing (shown x.now) (shown y.now) i }
 {
     x.missing_id(i) == y.missing_id(i) && sequences::same_sequence(Sequence::Announcers(i), x, y)
 }
 
 // Graft timer i.
 fn same_timer(x: &View, y: &View, i: usize) -> bool
-    requires { (i < rows_of Table.Timers (shown x.now)) × (i < rows_of Table.Timers (shown y.now)) }
-    ensures { result ≡ same_row Table.Timers (shown x.now) (shown y.now) i }
+    requires { (i < rows_of RowTable.Timers (shown x.now)) × (i < rows_of RowTable.Timers (shown y.now)) }
+    ensures { result ≡ same_row RowTable.Timers (shown x.now) (shown y.now) i }
 {
     x.timer(i) == y.timer(i)
 }
 
 // Received message i: identifier and expiry.
 fn same_received(x: &View, y: &View, i: usize) -> bool
-    requires { (i < rows_of Table.Received (shown x.now)) × (i < rows_of Table.Received (shown y.now)) }
-    ensures { result ≡ same_row Table.Received (shown x.now) (shown y.now) i }
+    requires { (i < rows_of RowTable.Received (shown x.now)) × (i < rows_of RowTable.Received (shown y.now)) }
+    ensures { result ≡ same_row RowTable.Received (shown x.now) (shown y.now) i }
 {
     same_key(
         ReceivedMessages::table(x),
@@ -140,8 +140,8 @@ fn same_received(x: &View, y: &View, i: usize) -> bool
 
 // Grafted message i: identifier, expiry, `first`, `kept` and peers.
 fn same_grafted(x: &View, y: &View, i: usize) -> bool
-    requires { (i < rows_of Table.Grafted (shown x.now)) × (i < rows_of Table.Grafted (shown y.now)) }
-    ensures { result ≡ same_row Table.Grafted (shown x.now) (shown y.now) i }
+    requires { (i < rows_of RowTable.Grafted (shown x.now)) × (i < rows_of RowTable.Grafted (shown y.now)) }
+    ensures { result ≡ same_row RowTable.Grafted (shown x.now) (shown y.now) i }
 {
     same_key(
         GraftedMessages::table(x),
@@ -156,8 +156,8 @@ fn same_grafted(x: &View, y: &View, i: usize) -> bool
 
 // Cached message i: identifier, expiry, content and round.
 fn same_cached(x: &View, y: &View, i: usize) -> bool
-    requires { (i < rows_of Table.Cached (shown x.now)) × (i < rows_of Table.Cached (shown y.now)) }
-    ensures { result ≡ same_row Table.Cached (shown x.now) (shown y.now) i }
+    requires { (i < rows_of RowTable.Cached (shown x.now)) × (i < rows_of RowTable.Cached (shown y.now)) }
+    ensures { result ≡ same_row RowTable.Cached (shown x.now) (shown y.now) i }
 {
     same_key(
         MessageCache::table(x),
@@ -176,32 +176,32 @@ fn same_row(row: Place, x: &View, y: &View) -> bool
 {
     let i = row.i;
     match row.table {
-        Table::Links => same_link(x, y, i),
-        Table::Missing => same_missed(x, y, i),
-        Table::Timers => same_timer(x, y, i),
-        Table::Received => same_received(x, y, i),
-        Table::Grafted => same_grafted(x, y, i),
-        Table::Cached => same_cached(x, y, i),
+        RowTable::Links => same_link(x, y, i),
+        RowTable::Missing => same_missed(x, y, i),
+        RowTable::Timers => same_timer(x, y, i),
+        RowTable::Received => same_received(x, y, i),
+        RowTable::Grafted => same_grafted(x, y, i),
+        RowTable::Cached => same_cached(x, y, i),
     }
 }
 
 // How many rows a table has.
-fn rows_of(table: Table, view: &View) -> usize
+fn rows_of(table: RowTable, view: &View) -> usize
     ensures { result ≡ rows_of table (shown view.now) }
 {
     let live = view.head.live;
     match table {
-        Table::Links => live.links,
-        Table::Missing => live.missing,
-        Table::Timers => live.timers,
-        Table::Received => live.received,
-        Table::Grafted => live.grafted,
-        Table::Cached => live.cached,
+        RowTable::Links => live.links,
+        RowTable::Missing => live.missing,
+        RowTable::Timers => live.timers,
+        RowTable::Received => live.received,
+        RowTable::Grafted => live.grafted,
+        RowTable::Cached => live.cached,
     }
 }
 
 // Whether a table of one block agrees with that of another: row by row, since both are in order.
-pub fn same_rows(table: Table, x: &View, y: &View) -> bool
+pub fn same_rows(table: RowTable, x: &View, y: &View) -> bool
     ensures { result ≡ same_rows table (shown x.now) (shown y.now) }
 {
     let n = rows_of(table, x);

@@ -1,10 +1,15 @@
--- Laws on plain values. Longer: tables that grow. KeyMembers: a set by the place of a key. HeardLaws: what an announcement leaves as it is, and keeps.
--- StepLaws: one announcement, of header and block. TurnLaws: the loop over the entries of an IHave. NewLaws: the identifiers that are not known.
--- WalkLaws: which entries have been taken. ScanLaws: the first entries of an IHave. CountLaws: what it adds, counted. TimerActions: the timers that it schedules. ReceivedLaws: an IHave whose
--- identifiers are all received.
-pub mod Longer
+-- Laws on plain values. TableLimits: a state with other missing messages and timers, and its limits. HeardLaws: one announcement. WalkLaws: which announcements have been taken.
+-- ReceivedLaws: an IHave whose identifiers are all received. Same: maps and sets by their look-ups. Looked: what an IHave leaves, by look-ups. Entries: the entries that count.
+-- Merged: the state by tables, each by one walk and a merge. Ordered: the entries in the order of their identifiers. StateLaws: the step. DecidedLaws: what is decided does what
+-- the IHave does.
+pub mod TableLimits
 pub mod HeardLaws
-pub mod NewLaws
 pub mod WalkLaws
-pub mod ScanLaws
 pub mod ReceivedLaws
+pub mod Same
+pub mod Looked
+pub mod Entries
+pub mod Merged
+pub mod Ordered
+pub mod StateLaws
+pub mod DecidedLaws

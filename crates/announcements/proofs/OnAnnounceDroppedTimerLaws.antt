@@ -1,9 +1,9 @@
 -- AnnounceDropped: the pass over the record, of states; what moves and what stays, as numbers and as questions; and the step.
 -- Assumes nothing.
-use Rattle.announcements.proofs.Words.{◌≡◌, ℕ, ◌+◌, ◌≤◌, ◌<◌, zero-le, length, get_or, set, take, drop, replicate, refl, sym, ap, ◌∙◌, arith, Bool, true, false, not, ◌||◌, ltb, List, [], ◌∷◌, ◌++◌, append_assoc, if◌then◌else◌, subst, append-nil, add-zero, nil_from_length, leb-true, lt-ltb, length-append, is_empty, keys, id_of, cases, true≢, and_left, and_right, filter-append, length-filter, count-length, concat-append, holds, Action, action_bytes, State, Note, zero_counts, with_queue, with_dropped, with_dispatch_scheduled, with_announce_scheduled, Run, begin, for_peer, settled, Sizes, sized_queued, sized_recorded, announce_action, note, note_for, queue_also, drop_instead, NoteOf, record_cut, Intake, after_nil, AtRest, Allowed, sizes_value, settled-as}
-use Rattle.std.proofs.Common.{take-append-drop, take_all}
+use Rattle.announcements.proofs.Words.{◌≡◌, ℕ, ◌+◌, ◌≤◌, ◌<◌, zero-le, length, get_or, set, take, replicate, refl, sym, ap, ◌∙◌, arith, Bool, true, false, not, ◌||◌, ltb, List, [], ◌∷◌, ◌++◌, append_assoc, if◌then◌else◌, subst, append-nil, nil_from_length, leb-true, lt-ltb, length-append, is_empty, keys, id_of, true≢, and_left, and_right, length-filter, count-length, concat-append, holds, Action, action_bytes, State, Note, zero_counts, with_queue, with_dropped, with_dispatch_scheduled, with_announce_scheduled, Run, begin, settled, Sizes, sized_queued, sized_recorded, announce_action, note, note_for, queue_also, drop_instead, NoteOf, record_cut, Intake, after_nil, AtRest, Allowed, sizes_value, settled-as}
+use Rattle.std.proofs.Common.{take_all}
 use lib.ListN.{length-map}
-use Rattle.storage.specs.Lists.Base.{filter, count, concat_map}
+use Rattle.storage.specs.Lists.Base.{filter, concat_map}
 use Rattle.storage.specs.Rows.Part.{part, put}
 use Rattle.storage.proofs.RowsLaws.Parts.{put-nil, put-put-next, part-put, length-put, get_or-put-after}
 use Rattle.time_cache.proofs.Orders.{up_of}
@@ -20,8 +20,9 @@ use Rattle.block.specs.declared.note.Note.{Note as LinkNote}
 use Rattle.wire.specs.Encode.Intake.{after}
 use Rattle.steps.specs.declared.Sizes.{Sizes as CodeSizes}
 use Rattle.announcements.specs.Announce.Moves.{moved_state}
-use Rattle.announcements.specs.OnAnnounceDroppedTimer.{announce_bytes, queue_stands, record_stands}
-use Rattle.announcements.proofs.AnnounceLaws.Turns.{standing, standing-few, oldest-within, younger-few, stands, stands-not, Counts, counts_start, Read, seen_few, gone, counted, moves, moves-alone, stays, stays-alone}
+use Rattle.announcements.specs.OnAnnounceDroppedTimer.{announce_bytes, queue_stands, record_stands, StillCachedOf}
+use Rattle.announcements.specs.declared.on_announce_dropped_timer.StillCached.{StillCached}
+use Rattle.announcements.proofs.AnnounceLaws.Turns.{standing, standing-few, oldest-within, younger-few, stands-not, Counts, counts_start, Read, seen_few, gone, counted, moves, moves-alone, stays, stays-alone}
 
 -- the pass, with a test of identifiers
 
@@ -63,10 +64,6 @@ module _ (held : ℕ → Bool) (s : State) where
     pub still-not : held (id_of r.id) ≡ false → still (i + 1) ≡ still i
     still-not e = stands-not held s.dropped i q (ap (λ (m : Note). held m.id) is.same ∙ e)
 
-    pub still-some : held (id_of r.id) ≡ true → 0 < length (still (i + 1))
-    still-some e =
-        omega (arith, ap length (stands held s.dropped i q (ap (λ (m : Note). held m.id) is.same ∙ e)), length-append (still i) (get_or s.dropped i (note 0 0 0) ∷ []))
-
   -- entry i is read
   module _ (rest : AtRest s) (few : length s.links ≤ 32) (i : ℕ) (seen : List ℕ) (so : Passing i seen) (q : i < length s.dropped) (r : LinkNote)
       (is : NoteOf s (get_or s.dropped i (note 0 0 0)) r) where
@@ -92,20 +89,9 @@ module _ (held : ℕ → Bool) (s : State) where
     pub passing-more : held (id_of r.id) ≡ true → (new : List ℕ) → new ≡ set seen r.link (get_or seen r.link 0 + 1) → Passing (i + 1) new
     passing-more e new n = record { within = omega arith; counts = subst (λ (l : List ℕ). Counts (keys s.links) l (still (i + 1))) (sym n) (counted entry e) }
 
--- more of the younger in more
-
-younger-fewer : (seen xs ys : List Note) → length (younger seen xs) ≤ length (younger seen (xs ++ ys))
-unfolding younger
-younger-fewer seen [] ys = zero-le
-younger-fewer seen (m ∷ xs) ys =
-    cases (ltb (count (for_peer m.peer) seen) 64) (λ t. rw t (younger-fewer (m ∷ seen) xs ys)) (λ t. rw t (omega (arith, younger-fewer (m ∷ seen) xs ys)))
-
--- of 64 entries none is younger
-younger-none : (seen xs : List Note) → length seen + length xs ≤ 64 → younger seen xs ≡ []
-unfolding younger
-younger-none seen [] q = refl
-younger-none seen (m ∷ xs) q =
-    rw (lt-ltb (count (for_peer m.peer) seen) 64 (omega (arith, count-length (for_peer m.peer) seen))) (younger-none (m ∷ seen) xs (omega arith))
+some : {A : Type 0} (l : List A) → ltb 0 (length l) ≡ not (is_empty l)
+some [] = refl
+some (x ∷ l) = lt-ltb 0 (length (x ∷ l)) (omega arith)
 
 filled : {A : Type 0} (l : List A) → 0 < length l → not (is_empty l) ≡ true
 filled [] q = absurd (omega arith)
@@ -129,52 +115,33 @@ module _ (now : ℕ) (s : State) where
   unfolding still_cached
   cached-all = ap (filter (λ (n : Note). held_then n.id)) same-dropped
 
-  -- the first i of them
-  split : (i : ℕ) → still_cached t ≡ still held_then s i ++ filter (λ n. held_then n.id) (drop i s.dropped)
-  split i = cached-all ∙ ap (filter (λ (n : Note). held_then n.id)) (sym (take-append-drop i s.dropped)) ∙ filter-append (λ n. held_then n.id) (take i s.dropped) (drop i s.dropped)
+  -- all of them, once all rows are passed
+  pub still-end : (i : ℕ) → length s.dropped ≤ i → still held_then s i ≡ still_cached t
+  still-end i q = still-all held_then s i q ∙ sym cached-all
 
   cached-few : length (still_cached t) ≤ length s.dropped
   cached-few = omega (arith, ap length cached-all, length-filter (λ n. held_then n.id) s.dropped, count-length (λ n. held_then n.id) s.dropped)
 
-  -- a queue
-  pub queue-before : 0 < length s.queue → true ≡ queue_stands t
-  queue-before q = sym (filled (t.queue ++ oldest [] (still_cached t)) (omega (arith, length-append t.queue (oldest [] (still_cached t)), ap length same-queue)))
+  -- what moves is no more than the record holds
+  pub moved-few : length (oldest [] (still_cached t)) ≤ length s.dropped
+  moved-few = omega (arith, moved_all [] (still_cached t), cached-few)
 
-  oldest-some : (xs : List Note) → 0 < length xs → 0 < length (oldest [] xs)
-  unfolding oldest count
-  oldest-some [] q = absurd (omega arith)
-  oldest-some (x ∷ xs) q = omega arith
+  -- a queue stands where one stood, or where something moves to it
+  module _ (q m : ℕ) (before : q ≡ length s.queue) (moves' : m ≡ length (oldest [] (still_cached t))) where
+    queue-told : ltb 0 (q + m) ≡ queue_stands t
+    queue-told =
+        ap (ltb 0) ((λ k. before k + moves' k) ∙ ap (λ (n : ℕ). n + length (oldest [] (still_cached t))) (ap length (sym same-queue)) ∙ sym (length-append t.queue (oldest [] (still_cached t))))
+        ∙ some (t.queue ++ oldest [] (still_cached t))
 
-  pub queue-some : (i : ℕ) → 0 < length (still held_then s i) → true ≡ queue_stands t
-  queue-some i q =
-      sym (filled (t.queue ++ oldest [] (still_cached t))
-      (omega (
-        arith,
-        length-append t.queue (oldest [] (still_cached t)),
-        oldest-some (still_cached t) (omega (arith, ap length (split i), length-append (still held_then s i) (filter (λ n. held_then n.id) (drop i s.dropped)))),
-      )))
+    pub queue-before : 0 < q → ltb 0 q ≡ queue_stands t
+    queue-before h = lt-ltb 0 q h ∙ sym (lt-ltb 0 (q + m) (omega (arith, h))) ∙ queue-told
 
-  pub queue-none : (i : ℕ) → length s.dropped ≤ i → length s.queue ≡ 0 → still held_then s i ≡ [] → false ≡ queue_stands t
-  unfolding oldest
-  queue-none i q z e =
-      let no : still_cached t ≡ [] = cached-all ∙ sym (still-all held_then s i q) ∙ e in
-      sym ((λ k. not (is_empty (nil t.queue (ap length same-queue ∙ z) k ++ oldest [] (no k)))))
-    where
-      nil : (l : List Note) → length l ≡ 0 → l ≡ []
-      nil [] e = refl
-      nil (x ∷ l) e = absurd (omega arith)
+    pub queue-moved : q ≡ 0 → ltb 0 m ≡ queue_stands t
+    queue-moved z = ap (ltb 0) (let e : m ≡ q + m = omega (arith, z) in e) ∙ queue-told
 
-  -- a record
-  pub record-none : length s.dropped ≤ 64 → false ≡ record_stands t
-  record-none q = sym (ap (λ (l : List Note). not (is_empty l)) (younger-none [] (still_cached t) (omega (arith, cached-few))))
-
-  pub record-some : (i : ℕ) → 0 < length (younger [] (still held_then s i)) → true ≡ record_stands t
-  record-some i q =
-      sym (filled (younger [] (still_cached t))
-      (omega (arith, ap (λ (l : List Note). length (younger [] l)) (split i), younger-fewer [] (still held_then s i) (filter (λ n. held_then n.id) (drop i s.dropped)))))
-
-  pub record-end : (i : ℕ) → length s.dropped ≤ i → younger [] (still held_then s i) ≡ [] → false ≡ record_stands t
-  record-end i q e = sym (ap (λ (l : List Note). not (is_empty (younger [] l))) (cached-all ∙ sym (still-all held_then s i q)) ∙ ap (λ (l : List Note). not (is_empty l)) e)
+  -- a record does where something is left
+  pub record-told : (y : ℕ) → y ≡ length (younger [] (still_cached t)) → ltb 0 y ≡ record_stands t
+  record-told y e = ap (ltb 0) e ∙ some (younger [] (still_cached t))
 
   -- the numbers of entries
   after-sized : sized_queued (length t.queue + length (oldest [] (still_cached t))) (sized_recorded (length (younger [] (still_cached t))) (sizes_of t)) ≡ sizes_of (announce_state t)
@@ -183,25 +150,13 @@ module _ (now : ℕ) (s : State) where
       let run : Run = begin t zero_counts [] in
       sym (announce-sizes run) ∙ ap sizes_of (announce-state run)
 
-  pub sized-end : (i m y q : ℕ) (z : Sizes) → z ≡ sizes_of t → q ≡ length s.queue → length s.dropped ≤ i → m ≡ length (oldest [] (still held_then s i)) → y ≡ length (younger [] (still held_then s i))
-      → sized_queued (q + m) (sized_recorded y z) ≡ sizes_of (announce_state t)
-  sized-end i m y q z w eq b em ey =
-      let all : still held_then s i ≡ still_cached t = still-all held_then s i b ∙ sym cached-all in
-      (λ k. sized_queued ((eq ∙ ap length (sym same-queue)) k + (em ∙ ap (λ (l : List Note). length (oldest [] l)) all) k) (sized_recorded ((ey ∙ ap (λ (l : List Note). length (younger [] l)) all) k) (w k)))
-      ∙ after-sized
+  pub sized-moved : (z : Sizes) → z ≡ sizes_of t → (m y : ℕ) → m ≡ length (oldest [] (still_cached t)) → y ≡ length (younger [] (still_cached t)) → sized_queued (z.queued + m) (sized_recorded y z) ≡ sizes_of (announce_state t)
+  unfolding sizes_of
+  sized-moved z w m y em ey = (λ k. sized_queued (ap (λ (x : Sizes). x.queued) w k + em k) (sized_recorded (ey k) (w k))) ∙ after-sized
 
   pub queued-of : (z : CodeSizes) → sizes_value z ≡ sizes_of t → z.queued ≡ length s.queue
   unfolding sizes_of
   queued-of z w = ap (λ (y : Sizes). y.queued) w ∙ ap length same-queue
-
-  -- of no record
-  pub sized-none : (z : Sizes) → z ≡ sizes_of t → length s.dropped ≡ 0 → z ≡ sizes_of (announce_state t)
-  unfolding sizes_of
-  sized-none z w none =
-      let queued : z.queued ≡ length s.queue + 0 = ap (λ (y : Sizes). y.queued) w ∙ ap length same-queue ∙ sym (add-zero (length s.queue)) in
-      let dropped : z.recorded ≡ 0 = ap (λ (y : Sizes). y.recorded) w ∙ ap length same-dropped ∙ none in
-      (λ k. sized_queued (queued k) (sized_recorded (dropped k) z))
-      ∙ sized-end 0 0 0 (length s.queue) z w refl (omega arith) (ap length (sym (oldest-start held_then s))) (ap length (sym (younger-start held_then s)))
 
   -- the actions
   pub stands-bytes : (b c : Bool) → b ≡ queue_stands t → c ≡ record_stands t
@@ -340,15 +295,16 @@ module _ (s : State) (asks : Allowed announce_state s) where
         ∙ (λ t. with_dropped (first t) (with_queue (s.queue ++ oldest [] (so_far i)) s))
         ∙ (λ t. with_dropped (younger [] (all t)) (with_queue (s.queue ++ oldest [] (all t)) s))
 
--- of no record nothing moves
-pub move-none : (s : State) → Allowed announce_state s → length s.dropped ≡ 0 → s ≡ moved_state s
-move-none s asks none =
-    (λ k. with_dropped (nil_from_length s.dropped none k) s)
-    ∙ ap (λ (ns : List Note). with_dropped ns s) (sym (take_none s.dropped))
-    ∙ move-end s asks 0 s (move-start s asks) zero-le 0 (ap length (sym (younger-start (held_now s) s))) (omega arith)
-  where
-    take_none : (ns : List Note) → take 0 ns ≡ []
-    take_none ns = refl
+-- of a record with no rows nothing is cached
+pub none-cached : (s : State) (c : StillCached) → length s.dropped ≡ 0 → c.moved ≡ 0 → c.left ≡ 0 → StillCachedOf s c
+unfolding still_cached oldest younger filter
+none-cached s c none m y =
+    let no : s.dropped ≡ [] = nil_from_length s.dropped none in
+    record {
+      rows = record { told = record { each = λ row h. absurd (omega (arith, h, none)) }; long = omega (arith, none) };
+      moved = m ∙ ap (λ (ns : List Note). length (oldest [] (filter (λ n. holds n.id s.cache) ns))) (sym no);
+      left = y ∙ ap (λ (ns : List Note). length (younger [] (filter (λ n. holds n.id s.cache) ns))) (sym no);
+    }
 
 -- the flags
 

@@ -1,2 +1,2 @@
+pub mod Entries
 pub mod Heard
-pub mod New

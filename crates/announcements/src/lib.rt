@@ -1,7 +1,7 @@
 // The steps that carry identifiers only: IHave, and the timers SendGraft, DispatchLazyPush and AnnounceDropped.
 #![tactic(auto)]
 
-pub(crate) mod cached_rows;
+pub mod cached_rows;
 pub mod on_announce_dropped_timer;
 pub mod on_dispatch_timer;
 pub mod on_ihave;

@@ -3,12 +3,13 @@ ghost use Rattle.std.specs.Prelude.{◌≤◌, length};
 
 use crate::read;
 use block::head::{Config, Limits, MAX_LINKS, Settings};
+use machine::event;
 use machine::event::EventCall;
-use machine::{Stats, event};
 use postcard::units::{Millis, Round};
 use steps::call::Rooms;
 use storage::rows::word;
 use whole::create;
+use whole::stats::Stats;
 
 // No bound, as a number.
 const UNBOUNDED: u64 = 65536;
@@ -91,14 +92,14 @@ fn same_counts(x: Stats, y: Stats) -> bool {
 
 // What a call told: its number, the length of the output, and the counts after it.
 #[derive(Clone, Copy)]
-struct Told {
+struct Answered {
     number: u8,
     length: usize,
     stats: Stats,
 }
 
 // Whether a call told what the Rust did.
-fn agrees(o: Told, out: &[u8], number: u8, actions: &[u8], counts: Stats) -> bool {
+fn agrees(o: Answered, out: &[u8], number: u8, actions: &[u8], counts: Stats) -> bool {
     o.number == number
         && o.length == actions.len()
         && begins(out, actions)
@@ -106,15 +107,15 @@ fn agrees(o: Told, out: &[u8], number: u8, actions: &[u8], counts: Stats) -> boo
 }
 
 // An event call with a part of the output.
-fn call(block: &mut [u8], out: &mut [u8], c: Stats, asked: EventCall, lent: usize) -> Told {
+fn call(block: &mut [u8], out: &mut [u8], c: Stats, asked: EventCall, lent: usize) -> Answered {
     let m = lent.min(out.len());
     match event::event_core(block, c, asked, &mut out[..m]) {
-        Ok(done) => Told {
+        Ok(done) => Answered {
             number: 0,
             length: done.length,
             stats: done.stats,
         },
-        Err(refusal) => Told {
+        Err(refusal) => Answered {
             number: refusal.number(),
             length: 0,
             stats: c,

@@ -2,7 +2,7 @@
 ghost use Rattle.std.specs.Prelude.{◌≤◌, length};
 
 use crate::{calls, read, state};
-use machine::Stats;
+use whole::stats::Stats;
 
 // "the counts zero".
 const NO_COUNTS: Stats = Stats {

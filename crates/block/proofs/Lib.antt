@@ -1,6 +1,6 @@
 -- Laws on plain values. Cut, Tables: pieces of a list, and the frame of a put in one table. LayoutLaws: where each table starts. HeaderLaws: the header.
 -- Scans, LinkLaws, ViewLaws, PanelLaws, FoundLaws: the links, and what is found in tables. NoteLaws, NoteRowLaws, CutLaws: queue and record. RowLaws, KeyPlaces, KeyMembers, Each: a row more or less in a table.
--- TimerLaws: graft timers. HopLaws, MissingLaws, AnnounceLaws, Few: missing messages and their announcers.
+-- TimerLaws: graft timers. HopLaws, MissingLaws, AnnounceLaws, Few: missing messages and their announcers. MergeLaws: many of either at once.
 -- CachesLaws, LookupLaws: the time caches. GraftsLaws: grafts. ContentsLaws: the contents of cached messages. NeighboursLaws: a link more or less, and the link numbers of all tables.
 pub mod Cut
 pub mod Tables
@@ -22,6 +22,7 @@ pub mod Each
 pub mod HopLaws
 pub mod MissingLaws
 pub mod AnnounceLaws
+pub mod MergeLaws
 pub mod Few
 pub mod CachesLaws
 pub mod LookupLaws

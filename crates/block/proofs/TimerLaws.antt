@@ -1,6 +1,6 @@
 -- The rows of graft timers: what another list of them does to the state, and a mark by where its identifier stands.
 -- Assumes nothing.
-use Rattle.block.proofs.Words.{◌≡◌, refl, sym, ap, ◌∙◌, subst, List, ℕ, ◌≤◌, ◌<◌, arith, lit<, length, Range, Here, Between, State, Limits, with_graft_timers}
+use Rattle.block.proofs.Words.{◌≡◌, refl, sym, ap, ◌∙◌, subst, List, ℕ, ◌+◌, ◌≤◌, ◌<◌, arith, lit<, length, Range, Here, Between, State, Limits, with_graft_timers}
 use Rattle.std.proofs.lemmas.List.Edits.{length-insert}
 use Rattle.storage.specs.Rows.Sorted.{key_of}
 use Rattle.storage.specs.Tables.Listed.{listed}
@@ -23,6 +23,10 @@ count-timers h xs = length-listed (id_at 0) 32 h.live.timers (table (limits_of h
 pub timer-room : (h : Head) (xs : List ℕ) → length (state_of h xs).timers.graft < (state_of h xs).limits.T → h.live.timers < h.limits.timers
 unfolding state_of
 timer-room h xs q = omega (arith, count-timers h xs, q)
+
+pub room-for : (h : Head) (xs : List ℕ) (k : ℕ) → length (state_of h xs).timers.graft + k ≤ (state_of h xs).limits.T → h.live.timers + k ≤ h.limits.timers
+unfolding state_of
+room-for h xs k q = omega (arith, count-timers h xs, q)
 
 -- a mark, where there is one and where there is none
 module _ (id i : ℕ) (s : State) where

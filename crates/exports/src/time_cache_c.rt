@@ -4,7 +4,7 @@
 ghost use Rattle.std.specs.Prelude.{◌≡◌, true, MatchBool, ◌+◌, ◌*◌, ◌≤◌, ◌<◌, length};
 ghost use Rattle.time_cache.specs.TimeCache.{holds, later_cache, expired_keys};
 ghost use Rattle.time_cache.specs.Tables.{cache_at, Lies, FitsOneMore};
-ghost use Rattle.time_cache.specs.Gone.{Told};
+ghost use Rattle.time_cache.specs.Gone.{TellsGone};
 ghost use Rattle.exports.specs.TimeCacheC.Handed.{handed, key_of, Whole, Few, Ready, Tells, Said, Done, ToldInsert, ToldExpire};
 
 use postcard::units::Millis;
@@ -170,7 +170,7 @@ pub extern "C" fn time_cache_expire_until(
     gone: &mut [Id],
 ) -> bool
     ensures left { Done (Few (handed a s n b t m) block.old) (ToldExpire (handed a s n b t m) instant.0 block.old block.new out.new) block.old block.new out.old out.new result }
-    ensures gone { MatchBool result (Told (expired_keys instant.0 (cache_at (handed a s n b t m) block.old)) gone.old gone.new) (gone.new ≡ gone.old) }
+    ensures gone { MatchBool result (TellsGone (expired_keys instant.0 (cache_at (handed a s n b t m) block.old)) gone.old gone.new) (gone.new ≡ gone.old) }
 {
     let cache = TimeBoundCache {
         entries: Table {

@@ -2,16 +2,17 @@
 ghost use Rattle.std.specs.Prelude.{◌≡◌, IfOk, IfErr, length};
 ghost use Rattle.protocol.specs.State.{zero_counts, create, not_created};
 ghost use Rattle.block.specs.View.{settings_of, limits_of};
-ghost use Rattle.machine.specs.Called.{counts_of, lent, call_of, Called};
+ghost use Rattle.whole.specs.Stats.{counts_of};
+ghost use Rattle.machine.specs.Called.{lent, call_of, Called};
 ghost use Rattle.plumtree.specs.Calls.{entries, Made};
 ghost use Rattle.plumtree.specs.CallList.{fresh_list, with_call, LeadsTo};
 
 use crate::past::{Call, Past};
 use block::head::{Limits, Settings};
-use machine::Stats;
 use plumtree::LinkRoom;
 use postcard::units::Millis;
 use refusal::Refusal;
+use whole::stats::Stats;
 
 // A panel: a block that is lent, and the counts, as the calls of `past` left them; and so the guarantee holds of that list (`LeadsTo`).
 #[derive(Drop)]

@@ -5,7 +5,7 @@ use Rattle.std.specs.Borrow.{Bor}
 use Rattle.storage.specs.Rows.Ident.{id_of}
 use Rattle.storage.specs.declared.rows.id.Id.{Id}
 use Rattle.time_cache.specs.TimeCache.{later_cache}
-use Rattle.wire.specs.declared.reader.ihaves.Ihaves.{Ihaves}
+use Rattle.announcements.specs.declared.on_ihave.IhaveDecision.{IhaveDecision}
 use Rattle.protocol.specs.Gossips.{Late}
 use Rattle.protocol.specs.Consistent.{Consistent, Ranged}
 use Rattle.protocol.proofs.WholeKept.{kept-first_event}
@@ -25,6 +25,7 @@ use Rattle.payloads.specs.declared.on_late_graft_reply.LateCopy.{LateCopy}
 use Rattle.payloads.specs.declared.on_late_graft_reply.Late.{Late as Kind}
 use Rattle.payloads.specs.declared.on_late_graft_reply.Late.TheVariants.{Duplicate, Repeated, Faster}
 use Rattle.payloads.specs.declared.broadcast.OwnMessage.{OwnMessage}
+use Rattle.announcements.specs.declared.on_announce_dropped_timer.StillCached.{StillCached}
 use Rattle.machine.specs.Kinds.Meaning.{step_state, step_far, step_counts, StepHeld}
 use Rattle.machine.specs.declared.kinds.Step.{Step}
 use Rattle.machine.specs.declared.kinds.Step.TheVariants as step
@@ -52,12 +53,12 @@ module _ (t : State) (x : Consistent t) where
   pub others-sized : (call : Call) (r : Step)
       → ((m : NewMessage) → r ≡ step.NewSwarm m → ⊥)
       → ((link : ℕ) (w : Option Id) → r ≡ step.Graft link w → ⊥)
-      → ((link : ℕ) (ihaves : Ihaves) → r ≡ step.IHave link ihaves → ⊥)
+      → ((link : ℕ) (d : IhaveDecision) → r ≡ step.IHave link d → ⊥)
       → ((m : OwnMessage) → r ≡ step.Broadcast m → ⊥)
       → ((id : Id) → r ≡ step.SendGraft id → ⊥)
       → ((rows : Bor (List ℕ)) → r ≡ step.DispatchLazyPush rows → ⊥)
       → (r ≡ step.EvictCache → ⊥)
-      → (r ≡ step.AnnounceDropped → ⊥)
+      → ((cached : StillCached) → r ≡ step.AnnounceDropped cached → ⊥)
       → sizes_of t ≡ sizes_of (after_step call r t)
   unfolding step_state
   others-sized call step.Nothing a b c d e f g h = refl
@@ -66,12 +67,12 @@ module _ (t : State) (x : Consistent t) where
   others-sized call (step.Late copy) a b c d e f g h = late-sized copy.sender (id_of copy.id) (late_value t copy.kind)
   others-sized call (step.Prune link) a b c d e f g h = prune-sized (peer_at t link)
   others-sized call (step.Graft link w) a b c d e f g h = absurd (b link w refl)
-  others-sized call (step.IHave link ihaves) a b c d e f g h = absurd (c link ihaves refl)
+  others-sized call (step.IHave link x) a b c d e f g h = absurd (c link x refl)
   others-sized call (step.Broadcast m) a b c d e f g h = absurd (d m refl)
   others-sized call (step.SendGraft id) a b c d e f g h = absurd (e id refl)
   others-sized call (step.DispatchLazyPush rows) a b c d e f g h = absurd (f rows refl)
   others-sized call step.EvictCache a b c d e f g h = absurd (g refl)
-  others-sized call step.AnnounceDropped a b c d e f g h = absurd (h refl)
+  others-sized call (step.AnnounceDropped cached) a b c d e f g h = absurd (h cached refl)
 
 -- the steps that leave the state as it is
 pub others-still : (call : Call) (r : Step) (t : State)
@@ -79,12 +80,12 @@ pub others-still : (call : Call) (r : Step) (t : State)
     → ((copy : LateCopy) → r ≡ step.Late copy → ⊥)
     → ((link : ℕ) → r ≡ step.Prune link → ⊥)
     → ((link : ℕ) (w : Option Id) → r ≡ step.Graft link w → ⊥)
-    → ((link : ℕ) (ihaves : Ihaves) → r ≡ step.IHave link ihaves → ⊥)
+    → ((link : ℕ) (d : IhaveDecision) → r ≡ step.IHave link d → ⊥)
     → ((m : OwnMessage) → r ≡ step.Broadcast m → ⊥)
     → ((id : Id) → r ≡ step.SendGraft id → ⊥)
     → ((rows : Bor (List ℕ)) → r ≡ step.DispatchLazyPush rows → ⊥)
     → (r ≡ step.EvictCache → ⊥)
-    → (r ≡ step.AnnounceDropped → ⊥)
+    → ((cached : StillCached) → r ≡ step.AnnounceDropped cached → ⊥)
     → t ≡ after_step call r t
 unfolding step_state
 others-still call step.Nothing t a b c d e f g h i j = refl
@@ -93,12 +94,12 @@ others-still call (step.NewNeighbors sender content) t a b c d e f g h i j = ref
 others-still call (step.Late copy) t a b c d e f g h i j = absurd (b copy refl)
 others-still call (step.Prune link) t a b c d e f g h i j = absurd (c link refl)
 others-still call (step.Graft link w) t a b c d e f g h i j = absurd (d link w refl)
-others-still call (step.IHave link ihaves) t a b c d e f g h i j = absurd (e link ihaves refl)
+others-still call (step.IHave link x) t a b c d e f g h i j = absurd (e link x refl)
 others-still call (step.Broadcast m) t a b c d e f g h i j = absurd (f m refl)
 others-still call (step.SendGraft id) t a b c d e f g h i j = absurd (g id refl)
 others-still call (step.DispatchLazyPush rows) t a b c d e f g h i j = absurd (h rows refl)
 others-still call step.EvictCache t a b c d e f g h i j = absurd (i refl)
-others-still call step.AnnounceDropped t a b c d e f g h i j = absurd (j refl)
+others-still call (step.AnnounceDropped cached) t a b c d e f g h i j = absurd (j cached refl)
 
 -- a first event's work is done
 settled-init : (now : ℕ) (s : State) → (settled now s).init ≡ true
@@ -122,12 +123,12 @@ held_same s t (step.Late copy) e a = late-same copy.kind a
     late-same Repeated h = h
 held_same s t (step.Prune link) e a = subst (λ (n : ℕ). link < n) e a
 held_same s t (step.Graft link w) e a = subst (λ (n : ℕ). link < n) e a
-held_same s t (step.IHave link ihaves) e a = record { there = subst (λ (n : ℕ). link < n) e a.there; few = a.few }
+held_same s t (step.IHave link d) e a = record { there = subst (λ (n : ℕ). link < n) e a.there; few = a.few }
 held_same s t (step.Broadcast m) e a = a
 held_same s t (step.SendGraft id) e a = a
 held_same s t (step.DispatchLazyPush rows) e a = a
 held_same s t step.EvictCache e a = a
-held_same s t step.AnnounceDropped e a = a
+held_same s t (step.AnnounceDropped cached) e a = a
 
 settled-ranged : (now : ℕ) (s : State) → Ranged s → Ranged (settled now s)
 settled-ranged now s k = record {

@@ -14,7 +14,7 @@ use Rattle.block.specs.LinkSteps.{linked}
 use Rattle.block.specs.Panels.{Allowed, Goes, state}
 use Rattle.block.specs.declared.panel.Panel.{Panel}
 use Rattle.steps.specs.declared.call.Call.{Call}
-use Rattle.machine.specs.Called.{counts_of}
+use Rattle.whole.specs.Stats.{counts_of}
 use Rattle.machine.specs.Decided.{Planned, unless, answered}
 use Rattle.machine.specs.Limit.{state_limit}
 use Rattle.machine.specs.Kinds.Meaning.{step_far, step_counts, SenderIs}

@@ -83,7 +83,7 @@ StepHeld-prop s (kinds.NewNeighbors sender content) = Prim.hlevel props
 StepHeld-prop s (kinds.Late copy) = late-prop s copy.kind
 StepHeld-prop s (kinds.Prune link) = Prim.hlevel props
 StepHeld-prop s (kinds.Graft link wanted) = Prim.hlevel props
-StepHeld-prop s (kinds.IHave link ihaves) = Prim.hlevel props
+StepHeld-prop s (kinds.IHave link d) = Prim.hlevel props
 StepHeld-prop s (kinds.Broadcast m) = Prim.hlevel props
 StepHeld-prop s _ = Prim.hlevel props
 

@@ -50,12 +50,12 @@ impl<'a> Encode for Actions<'a> {
             Step::NewNeighbors { sender, content } => neighbors_actions(out, *sender, content),
             Step::Late(copy) => late_actions(view, call, out, *copy),
             Step::Graft { link, wanted } => graft_actions(view, call, out, *link, *wanted),
-            Step::IHave { ihaves, .. } => ihave_actions(view, call, out, *ihaves),
+            Step::IHave { decision, .. } => ihave_actions(view, call, out, decision),
             Step::Broadcast(message) => broadcast_actions(view, call, out, message),
             Step::SendGraft(id) => send_graft_actions(view, call, out, *id),
             Step::DispatchLazyPush(_) => dispatch_actions(view, call, out),
             Step::EvictCache => evict_actions(view, call, out),
-            Step::AnnounceDropped => announce_actions(view, call, out),
+            Step::AnnounceDropped(cached) => announce_actions(view, call, out, cached),
             Step::Prune { .. } => {}
             Step::Nothing => {}
         }

@@ -41,9 +41,9 @@ fn cache_fits(limit: usize, entries: usize, rows: usize) -> bool
 
 // (13) "Is the state after the call within every limit?", of the numbers of entries after it: the first limit that they are past, if they are past one.
 #[tactic(auto, unfolding(crate::specs::Limit::first_limit))]
-pub fn first_limit(limits: Limits, sizes: Sizes) -> Option<Limit>
-    requires { Ceilings (limits_of limits) }
-    ensures { result ≡ first_limit (limits_of limits) (sizes_value sizes) }
+pub fn first_limit(limits: &Limits, sizes: &Sizes) -> Option<Limit>
+    requires { Ceilings (limits_of limits.now) }
+    ensures { result ≡ first_limit (limits_of limits.now) (sizes_value sizes.now) }
 {
     if limits.neighbours < sizes.links {
         return Some(Limit::Neighbours);

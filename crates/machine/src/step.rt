@@ -30,12 +30,12 @@ pub fn step_sizes(view: &View, call: &Call, step: &Step) -> Sizes
     match step {
         Step::NewSwarm(message) => gossip_sizes(view, call, message),
         Step::Graft { link, wanted } => graft_sizes(view, call, *link, *wanted),
-        Step::IHave { ihaves, .. } => ihave_sizes(view, call, *ihaves),
+        Step::IHave { decision, .. } => ihave_sizes(view, call, decision),
         Step::Broadcast(message) => broadcast_sizes(view, call, message),
         Step::SendGraft(id) => send_graft_sizes(view, call, *id),
         Step::DispatchLazyPush(noted) => dispatch_sizes(view, call, noted),
         Step::EvictCache => evict_sizes(view, call),
-        Step::AnnounceDropped => announce_sizes(view, call),
+        Step::AnnounceDropped(cached) => announce_sizes(view, call, cached),
         _ => sizes_then(view, call.instant),
     }
 }
@@ -50,12 +50,12 @@ pub fn step_state(panel: &mut Panel, call: &Call, step: &Step)
         Step::Late(copy) => on_late_graft_reply(panel, call, *copy),
         Step::Prune { link } => on_prune(panel, *link),
         Step::Graft { link, wanted } => on_graft(panel, call, *link, *wanted),
-        Step::IHave { link, ihaves } => on_ihave(panel, *link, *ihaves),
+        Step::IHave { link, decision } => on_ihave(panel, *link, decision),
         Step::Broadcast(message) => broadcast(panel, call, message),
         Step::SendGraft(id) => on_send_graft_timer(panel, call, *id),
         Step::DispatchLazyPush(noted) => on_dispatch_timer(panel, noted),
         Step::EvictCache => on_evict_cache_timer(panel, call),
-        Step::AnnounceDropped => on_announce_dropped_timer(panel),
+        Step::AnnounceDropped(cached) => on_announce_dropped_timer(panel, cached),
         _ => {}
     }
 }

@@ -12,7 +12,8 @@ ghost use Rattle.protocol.specs.Alike.{alike_blocks};
 ghost use Rattle.block.specs.View.{limits_of};
 ghost use Rattle.blake3.specs.Blake3.{identifier};
 ghost use Rattle.whole.specs.Held.{held};
-ghost use Rattle.machine.specs.Called.{counts_of, lent, call_of, Called};
+ghost use Rattle.whole.specs.Stats.{counts_of};
+ghost use Rattle.machine.specs.Called.{lent, call_of, Called};
 ghost use Rattle.storage.specs.Lists.Map.{lookup};
 ghost use Rattle.whole.specs.States.Kept.{Kept};
 ghost use Rattle.whole.specs.States.Area.{kept_in};
@@ -23,9 +24,10 @@ ghost use Rattle.plumtree.specs.CallList.{CallList, fresh_list, with_call, Leads
 
 use block::head::{Limits, Settings};
 use machine::event::EventCall;
-use machine::{Stats, event, limit_met};
+use machine::{event, limit_met};
 use postcard::units::Millis;
 use refusal::Refusal;
+use whole::stats::Stats;
 use whole::{create, states};
 use wire::rewrite;
 
@@ -118,7 +120,8 @@ pub extern "C" fn plumtree_event(
     ensures continues { (h : CallList) → LeadsTo h block.old (counts_of counts.old) →
         LeadsTo (with_call (call_of at.0 event.now (entries rooms.now) output.old) (record { number = result.number; bytes = take result.length output.new }) h) block.new (counts_of counts.new) }
 {
-    let found = rooms::rooms_of(block, event, rooms);
+    let mut found = rooms::NO_BOUNDS;
+    rooms::find_rooms(block, event, rooms, &mut found);
     let asked = EventCall {
         instant: at,
         event,
@@ -158,7 +161,8 @@ pub extern "C" fn plumtree_limit_met(
 ) -> u8
     ensures { result ≡ limit_met identifier (length block.now) (held block.now) (asking at.0 event.now (entries rooms.now)) }
 {
-    let found = rooms::rooms_of(block, event, rooms);
+    let mut found = rooms::NO_BOUNDS;
+    rooms::find_rooms(block, event, rooms, &mut found);
     let asked = EventCall {
         instant: at,
         event,
@@ -186,12 +190,7 @@ pub extern "C" fn plumtree_rewrite(message: &[u8], output: &mut [u8]) -> Answer
 pub extern "C" fn plumtree_save(block: &[u8], counts: Stats, area: &mut [u8], name: u64) -> Answer
     ensures { Saves block.now (counts_of counts) area.old name area.new result.number result.length }
 {
-    let c = states::Counts {
-        payload: counts.payload_messages_received,
-        control: counts.control_messages_received,
-        hops: counts.max_last_delivery_hop,
-    };
-    match states::save(block, c, area, name) {
+    match states::save(block, counts, area, name) {
         Ok(()) => Answer::accepted(0),
         Err(refusal) => Answer::refused(refusal),
     }
@@ -210,11 +209,7 @@ pub extern "C" fn plumtree_return(
 {
     match states::go_back(block, area, name) {
         Ok(kept) => {
-            *counts = Stats {
-                payload_messages_received: kept.payload,
-                control_messages_received: kept.control,
-                max_last_delivery_hop: kept.hops,
-            };
+            *counts = kept;
             Answer::accepted(0)
         }
         Err(refusal) => Answer::refused(refusal),

@@ -7,6 +7,9 @@ ghost use Rattle.storage.specs.Buckets.{id_at, bucket_of, bucket, Latest, Chaine
 use crate::rows::id::Id;
 use crate::rows::{id, word};
 
+// The bytes of a row: an identifier and a round.
+const ROW_WIDTH: usize = 34;
+
 // No record has more rows, and no chain more buckets.
 const MAX_ROWS: usize = 4096;
 
@@ -81,7 +84,7 @@ impl<'a> Columns<'a> {
     {
         Pair {
             link: self.links[p],
-            id: id::load_id(self.rows, p * 34),
+            id: id::load_id(self.rows, p * ROW_WIDTH),
         }
     }
 
@@ -90,7 +93,7 @@ impl<'a> Columns<'a> {
         requires { (p < length self.links.now) × (p * 34 + 32 ≤ length self.rows.now) }
         ensures { TellsBoth (get_or self.entry.links.now p 0) pair.link (id_at self.entry.rows.now p) (id_of pair.id) result }
     {
-        self.links[p] == pair.link && id::load_id(self.rows, p * 34) == pair.id
+        self.links[p] == pair.link && id::load_id(self.rows, p * ROW_WIDTH) == pair.id
     }
 
     // An odd multiplier that each of the first n identifiers changes. Nothing is promised of it: what a test answers does not go by it, only how long it takes.
@@ -99,8 +102,8 @@ impl<'a> Columns<'a> {
     {
         let mut mixed = SPREAD;
         for i in 0..n.div_ceil(2) {
-            let first = word::load_high(self.rows, i * 34 + 24);
-            let last = word::load_high(self.rows, (n - 1 - i) * 34 + 24);
+            let first = word::load_high(self.rows, i * ROW_WIDTH + 24);
+            let last = word::load_high(self.rows, (n - 1 - i) * ROW_WIDTH + 24);
             mixed = (mixed ^ first).wrapping_mul(last | 1);
             mixed ^= mixed >> 32;
         }
@@ -206,7 +209,7 @@ impl<'a> Columns<'a> {
             if count == MAX_ROWS_OF_A_LINK {
                 return None;
             }
-            ids[count] = id::load_id(self.rows, (j - 1) * 34);
+            ids[count] = id::load_id(self.rows, (j - 1) * ROW_WIDTH);
             count += 1;
             j = wide(next[j - 1]);
         }

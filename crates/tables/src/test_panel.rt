@@ -5,13 +5,14 @@ use crate::layout::{
 };
 use block::head::{Config, Limits, MAX_LINKS, Settings};
 use machine::event::EventCall;
-use machine::{Stats, event, limit_met};
+use machine::{event, limit_met};
 use postcard::units::{Millis, Round};
 use std::alloc::Global;
 use std::ops::Range;
 use std::test::Fail;
 use steps::call::Rooms;
 use whole::create;
+use whole::stats::Stats;
 
 // "Ceilings: neighbours N 32, received R 2,048, cached C 512, content bytes B 1,048,576, grafted G 512, missing S 512, graft timers T 512, queued Q 8,192, dropped D 4,096."
 pub const CEILINGS: Limits = Limits {

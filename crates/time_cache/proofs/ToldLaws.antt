@@ -1,4 +1,4 @@
--- What `write_keys` writes: one key after the other, and nothing behind them (`Told`).
+-- What `write_keys` writes: one key after the other, and nothing behind them (`TellsGone`).
 -- Assumes nothing.
 use Rattle.std.proofs.Common.{ℕ, ◌+◌, ◌-◌, ◌≤◌, ◌<◌, min, ◌≡◌, refl, sym, ap, ◌∙◌, ◌⊎◌, inl, inr, List, [], ◌∷◌, ◌++◌, map, add-one, arith, length, get_or, set, take, drop, length-set, length-take, take-suc, take-suc-set, take_all, take-take, drop-drop, drop-set-lt}
 use lib.ListN.{length-map}
@@ -6,7 +6,7 @@ use Rattle.std.proofs.lemmas.List.{map-append, take-map}
 use Rattle.storage.specs.Rows.Ident.{id_of}
 use Rattle.storage.specs.declared.rows.id.Id.{Id}
 use Rattle.storage.proofs.RowsLaws.Ids.{tri}
-use Rattle.time_cache.specs.Gone.{Told}
+use Rattle.time_cache.specs.Gone.{TellsGone}
 
 module _ (f : ℕ → ℕ) (rows : List ℕ) where
   -- the keys of the first i rows are written, and what stands behind them is as it was
@@ -41,7 +41,7 @@ module _ (f : ℕ → ℕ) (rows : List ℕ) where
   }
 
 -- all that there is room for
-pub written-done : (f : ℕ → ℕ) (rows : List ℕ) (xs ys : List Id) (r i : ℕ) (gone : List ℕ) → map f rows ≡ gone → r ≡ min (length rows) (length xs) → i ≡ length (take r rows) → Written f (take r rows) xs ys i → Told gone xs ys
+pub written-done : (f : ℕ → ℕ) (rows : List ℕ) (xs ys : List Id) (r i : ℕ) (gone : List ℕ) → map f rows ≡ gone → r ≡ min (length rows) (length xs) → i ≡ length (take r rows) → Written f (take r rows) xs ys i → TellsGone gone xs ys
 written-done f rows xs ys r i gone e hr hi w =
     let long : length gone ≡ length rows = sym (ap length e) ∙ length-map rows f in
     let ir : i ≡ r = hi ∙ length-take r rows ∙ omega (arith, hr) in
@@ -75,11 +75,11 @@ written-done f rows xs ys r i gone e hr hi w =
     first (inr (inr h)) l q = all (omega arith) l q
 
 -- where there is nothing to tell
-pub told-nothing : (gone : List ℕ) (xs : List Id) → 0 ≡ length gone → Told gone xs xs
+pub told-nothing : (gone : List ℕ) (xs : List Id) → 0 ≡ length gone → TellsGone gone xs xs
 told-nothing [] xs h = record { keys = sym (take_all (length xs) [] (omega arith)); behind = refl }
 told-nothing (k ∷ gone) xs h = absurd (omega arith)
 
 -- where there is no room
-pub told-no-room : (gone : List ℕ) (xs : List Id) → length xs ≡ 0 → Told gone xs xs
+pub told-no-room : (gone : List ℕ) (xs : List Id) → length xs ≡ 0 → TellsGone gone xs xs
 told-no-room gone [] h = record { keys = ap (map id_of) (take_all (length gone) [] (omega arith)); behind = refl }
 told-no-room gone (x ∷ xs) h = absurd (omega arith)

@@ -47,6 +47,6 @@ pub record Passed (c : TimeBoundCache) (xs gone told : List ℕ) (j : ℕ) : Typ
 
 -- what is written of the keys `removed` into a slice that held `xs`, so that it holds `ys`: the first of them, in order, as many as it has room for; what stands behind these
 -- stays as it was
-pub record Told (removed : List ℕ) (xs ys : List Id) : Type 0 where
+pub record TellsGone (removed : List ℕ) (xs ys : List Id) : Type 0 where
   pub keys : map id_of (take (length removed) ys) ≡ take (length xs) removed
   pub behind : drop (length removed) ys ≡ drop (length removed) xs

@@ -7,7 +7,7 @@ ghost use Rattle.storage.specs.Refs.Refs.{ref, places, Below, moved};
 ghost use Rattle.time_cache.specs.TimeCache.{holds, later_cache, expired_keys};
 ghost use Rattle.time_cache.specs.Tables.{refs_at, rows_at, cache_at, row_at, named, resized, Cut, Lies, FitsOneMore, Sound, sound};
 ghost use Rattle.time_cache.specs.Steps.{ref_at, GotIs, Opens, Places, Gap, Inserts, Drops, DropsEntries, Expires};
-ghost use Rattle.time_cache.specs.Gone.{Told};
+ghost use Rattle.time_cache.specs.Gone.{TellsGone};
 
 use crate::expiry::Expiry;
 use crate::gone::MAX_ENTRIES;
@@ -279,7 +279,7 @@ impl TimeBoundCache {
         requires lies { Lies self block.old × Sound self block.old }
         requires few { 0 < length gone.old → self.entries.len ≤ MAX_ENTRIES }
         ensures left { Expires self instant.0 block.old result block.new }
-        ensures gone { Told (expired_keys instant.0 (cache_at self block.old)) gone.old gone.new }
+        ensures gone { TellsGone (expired_keys instant.0 (cache_at self block.old)) gone.old gone.new }
     {
         let due = self.due(block, instant);
         let entries = self.entries.len;

@@ -4,7 +4,7 @@ ghost use Rattle.storage.specs.Rows.Ident.{id_of};
 ghost use Rattle.storage.specs.Lists.Base.{is_empty};
 ghost use Rattle.time_cache.specs.TimeCache.{due, expired_keys};
 ghost use Rattle.time_cache.specs.Tables.{cache_at, Lies, Sound};
-ghost use Rattle.time_cache.specs.Gone.{key_of_row, TakesIs, NamesRows, told_with, Passed, Told};
+ghost use Rattle.time_cache.specs.Gone.{key_of_row, TakesIs, NamesRows, told_with, Passed, TellsGone};
 
 use crate::cache::TimeBoundCache;
 use crate::expiry;
@@ -16,7 +16,7 @@ use storage::rows::id::Id;
 // No time cache of a panel has more entries: the ceiling of the received messages. It has twice as many rows.
 pub const MAX_ENTRIES: usize = 2048;
 
-pub const MAX_ROWS: usize = 4096;
+pub const MAX_EXPIRY_ROWS: usize = 4096;
 
 // A look-up of a row's key takes as long as finding the rows that so many entries name.
 const ENTRIES_A_LOOK_UP: usize = 64;
@@ -99,7 +99,7 @@ impl TimeBoundCache {
         instant: Millis,
     ) -> ArrayVec<u16, N>
         requires lies { Lies self block.now × Sound self block.now }
-        requires few { (self.entries.len ≤ N) × (N ≤ MAX_ENTRIES) × (ROWS ≤ MAX_ROWS) }
+        requires few { (self.entries.len ≤ N) × (N ≤ MAX_ENTRIES) × (ROWS ≤ MAX_EXPIRY_ROWS) }
         ensures keys { map (key_of_row self block.now) result.items ≡ expired_keys instant.0 (cache_at self block.now) }
         ensures rows { All (λ r. r < self.expiry.len) result.items }
     {
@@ -124,9 +124,9 @@ impl TimeBoundCache {
     pub(crate) fn write_keys(self, block: &[u8], instant: Millis, gone: &mut [Id])
         requires lies { Lies self block.now × Sound self block.now }
         requires few { self.entries.len ≤ MAX_ENTRIES }
-        ensures { Told (expired_keys instant.0 (cache_at self block.now)) gone.old gone.new }
+        ensures { TellsGone (expired_keys instant.0 (cache_at self block.now)) gone.old gone.new }
     {
-        let rows = self.expired_rows::<MAX_ENTRIES, MAX_ROWS>(block, instant);
+        let rows = self.expired_rows::<MAX_ENTRIES, MAX_EXPIRY_ROWS>(block, instant);
         let room = rows.len().min(gone.len());
         for (i, row) in rows.as_slice()[..room].iter().enumerate() {
             gone[i] = self.key_at(block, *row as usize);

@@ -5,6 +5,7 @@ pub mod create;
 pub mod laws;
 pub mod opened;
 pub mod states;
+pub mod stats;
 mod tables;
 
 ghost use Rattle.std.specs.Prelude.{◌≡◌, true, ◌||◌, eqb};

@@ -3,9 +3,11 @@ ghost use Rattle.std.specs.Prelude.{◌≡◌, ◌++◌, ◌+◌, ◌*◌, ◌-�
 ghost use Rattle.storage.specs.Rows.Part.{put};
 ghost use Rattle.storage.specs.Rows.Digits.{le_bytes};
 ghost use Rattle.whole.specs.States.Area.{area_holds, counts_at};
-ghost use Rattle.whole.specs.States.Calls.{Tells, Zeros, Placed, SlotsHold, area_asked, Saves, GoesBack, counts_of};
+ghost use Rattle.whole.specs.States.Calls.{Tells, Zeros, Placed, SlotsHold, area_asked, Saves, GoesBack};
+ghost use Rattle.whole.specs.Stats.{counts_of};
 ghost use Rattle.refusal.specs.Numbers.{answer_of};
 
+use crate::stats::Stats;
 use refusal::Refusal;
 use storage::rows::{bytes, word};
 
@@ -26,14 +28,6 @@ const KEPT: usize = 255;
 
 // "Up to four states are kept".
 const STATES: usize = 4;
-
-// The counts of a kept state.
-#[derive(Clone, Copy)]
-pub struct Counts {
-    pub payload: u64,
-    pub control: u64,
-    pub hops: u16,
-}
 
 // The place up to which no byte from `from` on is other than 0, told by words: fewer than eight bytes before `to`, or at a word that is not 0.
 fn zero_words(area: &[u8], from: usize, to: usize) -> usize
@@ -126,25 +120,25 @@ fn kept_after(k: usize, i: usize) -> u8
 }
 
 // Writes a row at `at`.
-fn put_row(area: &mut [u8], at: usize, name: u64, counts: Counts)
+fn put_row(area: &mut [u8], at: usize, name: u64, counts: Stats)
     requires { at + 26 ≤ length area.old }
-    ensures { area.new ≡ put at (le_bytes 8 name ++ (le_bytes 8 counts.payload ++ (le_bytes 8 counts.control ++ le_bytes 2 counts.hops))) area.old }
+    ensures { area.new ≡ put at (le_bytes 8 name ++ (le_bytes 8 counts.payload_messages_received ++ (le_bytes 8 counts.control_messages_received ++ le_bytes 2 counts.max_last_delivery_hop))) area.old }
 {
     word::store(area, at, name);
-    word::store(area, at + PAYLOAD, counts.payload);
-    word::store(area, at + CONTROL, counts.control);
-    word::store_le(area, at + HOPS, 2, counts.hops as u64);
+    word::store(area, at + PAYLOAD, counts.payload_messages_received);
+    word::store(area, at + CONTROL, counts.control_messages_received);
+    word::store_le(area, at + HOPS, 2, counts.max_last_delivery_hop as u64);
 }
 
 // The counts of the row at `at`.
-fn row_counts(area: &[u8], at: usize) -> Counts
+fn row_counts(area: &[u8], at: usize) -> Stats
     requires { at + 26 ≤ length area.now }
     ensures { counts_of result ≡ counts_at area.now at }
 {
-    Counts {
-        payload: word::load(area, at + PAYLOAD),
-        control: word::load(area, at + CONTROL),
-        hops: word::load2(area, at + HOPS) as u16,
+    Stats {
+        payload_messages_received: word::load(area, at + PAYLOAD),
+        control_messages_received: word::load(area, at + CONTROL),
+        max_last_delivery_hop: word::load2(area, at + HOPS) as u16,
     }
 }
 
@@ -162,7 +156,7 @@ fn ask_area(block: &[u8], area: &[u8]) -> Result<usize, Refusal>
 }
 
 // A saving, "asked in the order 5, 17, 16": it changes the area alone, and only where it is accepted.
-pub fn save(block: &[u8], counts: Counts, area: &mut [u8], name: u64) -> Result<(), Refusal>
+pub fn save(block: &[u8], counts: Stats, area: &mut [u8], name: u64) -> Result<(), Refusal>
     ensures { Saves block.now (counts_of counts) area.old name area.new (answer_of result) 0 }
 {
     let kept = ask_area(block, area)?;
@@ -177,7 +171,7 @@ pub fn save(block: &[u8], counts: Counts, area: &mut [u8], name: u64) -> Result<
 }
 
 // A return, "5, 17, 15": "Returning brings back block and counts in full."
-pub fn go_back(block: &mut [u8], area: &[u8], name: u64) -> Result<Counts, Refusal>
+pub fn go_back(block: &mut [u8], area: &[u8], name: u64) -> Result<Stats, Refusal>
     ensures { GoesBack block.old area.now name block.new result }
 {
     let kept = ask_area(block, area)?;

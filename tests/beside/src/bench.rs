@@ -15,6 +15,7 @@ use crate::{
     block::{self, Interleaving, CEILINGS},
     gen::{spell, PANELRUN},
     library,
+    records::{record, LastWord, CASES},
     rng::Rng,
     wire,
 };
@@ -22,8 +23,6 @@ use crate::{
 const NOW: u64 = 1_000_000;
 const CFG: [u64; 7] = [80, 40, 5, 7, 30000, 90000, 1000];
 const ME: u64 = 1;
-/// So far apart are the buckets of one identifier for a link and for the next, in the library (storage's `Pair::bucket`).
-const WIDTH_OF_A_LINK: u64 = 8;
 /// A peer between the others, never a neighbour at first.
 const STRANGER: u64 = 1000;
 
@@ -32,7 +31,7 @@ fn fresh(k: u8) -> Vec<u8> {
     vec![k; 100]
 }
 
-fn some_id(r: &mut Rng) -> Id {
+pub fn some_id(r: &mut Rng) -> Id {
     r.bytes(32).try_into().unwrap()
 }
 
@@ -351,40 +350,8 @@ pub fn run(only: Option<&str>) {
     }
 }
 
-/// How the last word of a record's identifiers is chosen; the others are random.
-#[derive(Clone, Copy)]
-enum LastWord {
-    /// Random, the same identifiers for each link.
-    Same,
-    /// Random.
-    Random,
-    /// A sender's: the last twelve bits are nought.
-    LastBits,
-    /// A sender's: the last twelve bits of each link's rows are such that all are in one bucket, where buckets go by these bits.
-    OneBucket,
-    /// The same, of each link's last rows alone.
-    LastRows,
-    /// A lender's: it is the same for all, so that all are in one bucket whatever the multiplier is.
-    Equal,
-    /// The same, and the first two words are equal too.
-    ThirdWord,
-    /// A lender's: random, and equal in each link's last rows.
-    EqualAtLast,
-}
-
 /// Question 5 of a block whose record is full, by how its identifiers are chosen.
 fn records(only: Option<&str>, title: &str, max: &[u64; 9]) {
-    use LastWord::*;
-    const CASES: [(&str, LastWord); 8] = [
-        ("record, random, same of each link", Same),
-        ("record, random", Random),
-        ("record, last 12 bits nought", LastBits),
-        ("record, one bucket by last bits", OneBucket),
-        ("record, one bucket, last tenth", LastRows),
-        ("record, last word equal", Equal),
-        ("record, third word alone", ThirdWord),
-        ("record, last word equal, last half", EqualAtLast),
-    ];
     let wanted = |name: &str| only.is_none_or(|o| name.contains(o));
     if !CASES.iter().any(|c| wanted(c.0)) {
         return;
@@ -403,7 +370,8 @@ fn records(only: Option<&str>, title: &str, max: &[u64; 9]) {
 /// not do, since the processor learns its chains.
 fn recorded(max: &[u64; 9], share: (u64, u64), last: LastWord) -> f64 {
     const BLOCKS: u64 = 32;
-    let mut blocks: Vec<_> = (0..BLOCKS).map(|seed| (record(seed, max, share, last), f64::MAX)).collect();
+    let state = noted(max, share, Notes::Each);
+    let mut blocks: Vec<_> = (0..BLOCKS).map(|seed| (record(seed, max, &state, last), f64::MAX)).collect();
     let base = clock();
     for _ in 0..10 {
         for (block, least) in &mut blocks {
@@ -416,37 +384,6 @@ fn recorded(max: &[u64; 9], share: (u64, u64), last: LastWord) -> f64 {
         }
     }
     blocks.iter().map(|b| b.1).sum::<f64>() / BLOCKS as f64
-}
-
-/// A block with such a record.
-fn record(seed: u64, max: &[u64; 9], share: (u64, u64), last: LastWord) -> Vec<u8> {
-    let r = &mut Rng::new(seed);
-    let mut s = noted(max, share, Notes::Each);
-    let each = s.dropped.first().map_or(0, |d| d.1.len());
-    let same: Vec<Id> = (0..each).map(|_| some_id(r)).collect();
-    for (link, (_, notes)) in s.dropped.iter_mut().enumerate() {
-        for (k, (id, _)) in notes.iter_mut().enumerate() {
-            *id = if let LastWord::Same = last { same[k] } else { some_id(r) };
-            let (words, word) = id.split_at_mut(24);
-            let random = u64::from_be_bytes((&*word).try_into().unwrap());
-            let here = random & !4095 | (4096 - WIDTH_OF_A_LINK * link as u64) % 4096;
-            let chosen = match last {
-                LastWord::Same | LastWord::Random => random,
-                LastWord::LastBits => random & !4095,
-                LastWord::OneBucket => here,
-                LastWord::LastRows => if k * 10 < each * 9 { random } else { here },
-                LastWord::Equal | LastWord::ThirdWord => 7,
-                LastWord::EqualAtLast => if k * 2 < each { random } else { 7 },
-            };
-            word.copy_from_slice(&chosen.to_be_bytes());
-            if let LastWord::ThirdWord = last {
-                words[..16].fill(0);
-            }
-        }
-    }
-    let mut block = vec![0; block::need(max)];
-    block::write_interleaved(&mut Rng::new(3), &mut block, max, &s, Some(Interleaving::Turns));
-    block
 }
 
 /// *Alike* of two blocks with one state, as long as it can be: links, queue and record at their limits, or at a share of them.
@@ -488,7 +425,7 @@ fn alike(only: Option<&str>, title: &str, max: &[u64; 9]) {
 /// Whose notes queue and record hold: nobody's, the same identifiers for each link, or those of one link. `Alone` is `Each` with the other tables but the links empty; `All` is `Each` with every
 /// link an announcer of each missing message and a peer of each grafted one.
 #[derive(Clone, Copy, PartialEq)]
-enum Notes {
+pub enum Notes {
     None,
     Each,
     Alone,
@@ -497,7 +434,7 @@ enum Notes {
 }
 
 /// The tables at a share of their limits, and links, queue and record at it to the last; of one link the record has at most 256.
-fn noted(max: &[u64; 9], share: (u64, u64), whose: Notes) -> Snap {
+pub fn noted(max: &[u64; 9], share: (u64, u64), whose: Notes) -> Snap {
     let r = &mut Rng::new(9);
     let others = if whose == Notes::Alone { (0, 4) } else { share };
     let mut s = filled(max, others).snap;

@@ -7,6 +7,7 @@ mod lent;
 mod library;
 mod likeness;
 mod paths;
+mod records;
 mod rewriting;
 mod rng;
 mod run;
@@ -37,6 +38,8 @@ beside [--seed N] [--seeds N] [--calls N] [--seconds N] [--from LIST] [--damage 
 beside --short
     every event of at most two bytes, and of three that begin with a kind; every message of at most
     three bytes, rewritten
+beside --records
+    question 5 of records whose identifiers are chosen, each as it is and with an identifier twice
 beside --script FILE
     the commands of a file (- for stdin) on both
 beside --sample FILE [--seed N] [--calls N]
@@ -492,6 +495,18 @@ fn main() -> ExitCode {
             }
             Err(e) => {
                 println!("{e}");
+                ExitCode::from(1)
+            }
+        };
+    }
+    if args.iter().any(|a| a == "--records") {
+        return match records::check() {
+            Ok((asked, yes)) => {
+                println!("records whose identifiers are chosen: {asked} asked, {yes} of them whole, 0 different");
+                ExitCode::SUCCESS
+            }
+            Err(e) => {
+                println!("DIFFERENT: {e}");
                 ExitCode::from(1)
             }
         };

@@ -5,7 +5,7 @@ use Rattle.storage.specs.Lists.Base.{all}
 use Rattle.decide.specs.NewIds.{new_ids, known_timer}
 use Rattle.decide.specs.ActionsAfter.{ihave_actions}
 use Rattle.decide.specs.StateAfter.{ihave_state}
-use Rattle.announcements.specs.Ihaves.New.{is_received}
+use Rattle.announcements.specs.Ihaves.Entries.{is_received}
 use Rattle.announcements.proofs.IhavesLaws.HeardLaws.{announced-received}
 
 -- of known identifiers none is new

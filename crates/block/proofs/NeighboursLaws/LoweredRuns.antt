@@ -27,6 +27,14 @@ others-more i a j xs o n = record { other = λ k h g e. go k h g e (low_or_high 
     go k h g e (inl b) = o.other k h b e
     go k h g e (inr b) = let z : j ≡ k = omega arith in n (ap (λ (q : ℕ). get_or xs q 0) z ∙ e)
 
+-- more behind them
+pub others-behind : (i a b c : ℕ) (xs : List ℕ) → NoneFrom i a b xs → NoneFrom i b c xs → NoneFrom i a c xs
+others-behind i a b c xs o n = record { other = λ k h g e. go k h g e (low_or_high b k) }
+  where
+    go : (k : ℕ) → a ≤ k → k < c → get_or xs k 0 ≡ i → (k < b) ⊎ (b ≤ k) → ⊥
+    go k h g e (inl q) = o.other k h q e
+    go k h g e (inr q) = n.other k q g e
+
 -- the one before them too
 pub others-from : (i a j : ℕ) (xs : List ℕ) → (get_or xs a 0 ≡ i → ⊥) → NoneFrom i (a + 1) j xs → NoneFrom i a j xs
 others-from i a j xs n o = record { other = λ k h g e. go k g e h (low_or_high (a + 1) k) }

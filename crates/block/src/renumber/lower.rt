@@ -1,6 +1,6 @@
 // A link that went: its number is dropped wherever it stands, and the numbers after it are one lower (the specification, "Sets": "Down: out of both, and out of
 // announcers (empty lists go), queue, record, grafted peers").
-ghost use Rattle.std.specs.Prelude.{◌≡◌, map, ◌+◌, ◌*◌, ◌≤◌, ◌<◌, length, get_or};
+ghost use Rattle.std.specs.Prelude.{◌≡◌, false, map, ◌+◌, ◌*◌, ◌≤◌, ◌<◌, length, get_or};
 ghost use Rattle.storage.specs.Lists.Base.{filter};
 ghost use Rattle.storage.specs.Rows.Part.{part, put};
 ghost use Rattle.storage.specs.Refs.Numbers.{lowered, lower_all, entries};
@@ -41,8 +41,25 @@ fn lower_numbers(bytes: &mut [u8], at: usize, n: usize, i: u8)
     }
 }
 
-// Where the first i stands of the numbers from `from` to `to`, or else `to`. Its time is that of one pass over these numbers.
-fn run_end(bytes: &[u8], from: usize, to: usize, i: u8) -> usize
+// How many numbers are compared at once.
+const AT_ONCE: usize = 16;
+
+// Whether i is among the `AT_ONCE` numbers from `from` on. All are compared, in vectors.
+fn is_among(bytes: &[u8], from: usize, i: u8) -> bool
+    requires { from + AT_ONCE ≤ length bytes.now }
+    ensures { result ≡ false → NoneFrom i from (from + AT_ONCE) bytes.now }
+{
+    let mut found = false;
+    for j in from..from + AT_ONCE {
+        if bytes[j] == i {
+            found = true;
+        }
+    }
+    found
+}
+
+// Where the first i stands of the numbers from `from` to `to`, or else `to`, one after the other.
+fn first_of(bytes: &[u8], from: usize, to: usize, i: u8) -> usize
     requires { (from ≤ to) × (to ≤ length bytes.now) }
     ensures within { (from ≤ result) × (result ≤ to) }
     ensures others { NoneFrom i from result bytes.now }
@@ -54,6 +71,20 @@ fn run_end(bytes: &[u8], from: usize, to: usize, i: u8) -> usize
         }
     }
     to
+}
+
+// Where the first i stands of the numbers from `from` to `to`, or else `to`. Its time is that of one pass over these numbers.
+fn run_end(bytes: &[u8], from: usize, to: usize, i: u8) -> usize
+    requires { (from ≤ to) × (to ≤ length bytes.now) }
+    ensures within { (from ≤ result) × (result ≤ to) }
+    ensures others { NoneFrom i from result bytes.now }
+    ensures here { result < to → get_or bytes.now result 0 ≡ i }
+{
+    let mut start = from;
+    while AT_ONCE <= to - start && !is_among(bytes, start, i) {
+        start += AT_ONCE;
+    }
+    first_of(bytes, start, to, i)
 }
 
 // The list of link numbers and rounds in 97 bytes, after link i went: where its number is not in it, only the numbers are lowered.
@@ -139,22 +170,6 @@ fn move_notes(bytes: &mut [u8], at: usize, j: usize, to: usize, m: usize)
     }
 }
 
-// How many notes have to be gone for those behind them to be moved in parts.
-const APART: usize = 16;
-
-// As far as notes are moved at once of those from j to n, where `gone` before them are: no more than are gone, so that they do not overlap the place that they go to,
-// which takes less time; all where few are gone.
-fn part_end(gone: usize, j: usize, n: usize) -> usize
-    requires { j < n }
-    ensures { (j < result) × (result ≤ n) }
-{
-    if gone < APART || n - j <= gone {
-        n
-    } else {
-        j + gone
-    }
-}
-
 // Drops the notes of link i, and returns how many are left: n numbers at the start, and n rows at `at`. What stands between two notes that go is moved at once, and what stands before
 // the first not at all.
 fn drop_notes(bytes: &mut [u8], at: usize, n: usize, i: u8) -> usize
@@ -168,7 +183,7 @@ fn drop_notes(bytes: &mut [u8], at: usize, n: usize, i: u8) -> usize
             j += 1;
             continue;
         }
-        let end = run_end(bytes, j + 1, part_end(j - kept, j, n), i);
+        let end = run_end(bytes, j + 1, n, i);
         move_notes(bytes, at, j, kept, end - j);
         kept += end - j;
         j = end;

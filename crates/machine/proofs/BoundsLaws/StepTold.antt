@@ -1,8 +1,9 @@
 -- The output of any step can be told: its bytes, with those of a first event's work, are at most 2^40.
 -- Assumes nothing.
-use Rattle.machine.proofs.Words.{ℕ, ◌+◌, ◌^◌, ◌≤◌, List, ◌++◌, arith, length, concat_map, Neighbors, action_bytes, wanted_value, ihaves_value, State, Room, Sound, state_of, peer_at, Head, settled, settled_actions}
+use Rattle.machine.proofs.Words.{ℕ, ◌+◌, ◌^◌, ◌≤◌, List, ◌++◌, arith, length, concat_map, Neighbors, action_bytes, wanted_value, State, Room, Sound, state_of, peer_at, Head, settled, settled_actions}
+use lib.ListN.{length-map}
+use Rattle.announcements.specs.OnIhave.{entry_value, entries_value}
 use Rattle.storage.specs.Rows.Ident.{id_of}
-use Rattle.wire.proofs.ReaderLaws.AnnouncedLaws.{announced_count}
 use Rattle.payloads.specs.OnLateGraftReply.{late_value}
 use Rattle.decide.proofs.LengthLaws.{length-actions}
 use Rattle.machine.specs.Kinds.Meaning.{StepHeld, step_actions}
@@ -25,14 +26,14 @@ step-light rooms now t (step.Late copy) s small held =
     light-more (late-light rooms copy.sender (late_value s copy.kind)) (omega arith)
 step-light rooms now t (step.Prune link) s small held = light-none
 step-light rooms now t (step.Graft link w) s small held = light-more (graft-light rooms (peer_at s link) (wanted_value w) s small) (omega arith)
-step-light rooms now t (step.IHave link ihaves) s small held =
-    light-more (ihave-light (ihaves_value ihaves) s (omega (arith, announced_count ihaves.count ihaves.bytes.now ihaves.there, held.few))) (omega arith)
+step-light rooms now t (step.IHave link d) s small held =
+    light-more (ihave-light (entries_value d.entries.now) s (omega (arith, length-map d.entries.now entry_value, held.few))) (omega arith)
 step-light rooms now t (step.Broadcast m) s small held =
     light-more (broadcast-light rooms (id_of m.id) m.content.now s small held.short) (omega arith)
 step-light rooms now t (step.SendGraft id) s small held = light-more (send-graft-light rooms (id_of id) s) (omega arith)
 step-light rooms now t (step.DispatchLazyPush rows) s small held = dispatch-light rooms s small
 step-light rooms now t step.EvictCache s small held = light-more (evict-light now s small) (omega arith)
-step-light rooms now t step.AnnounceDropped s small held = light-more (announce-light s) (omega arith)
+step-light rooms now t (step.AnnounceDropped cached) s small held = light-more (announce-light s) (omega arith)
 
 module _ (h : Head) (block : List ℕ) (rooms : List Room) (now : ℕ) (r : Step) (sound : Sound h block) (held : StepHeld (state_of h block) r) where
   -- the length of the output

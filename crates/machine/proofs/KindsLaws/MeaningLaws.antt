@@ -1,7 +1,7 @@
 -- Each event's step: once the tests are answered, the definitions of the whole call are those of the step.
 -- Assumes nothing.
-use Rattle.machine.proofs.Words.{ℕ, ◌≤◌, ◌<◌, ◌≡◌, refl, sym, ap, ◌∙◌, subst, Bool, true, false, not, ◌&&◌, List, [], ◌∷◌, ◌++◌, arith, leb-true, leb-false, lt-ltb, le-ltb, eqb, ltb, leb, length, get_or, length-append, Option, Some, all, and_right, identifier, Delivery, Swarm, Neighbors, Ihave, Gossip, Prune, Graft, IHave, Received, Broadcast, Fired, SendGraft, DispatchLazyPush, EvictCache, AnnounceDropped, ihave_bytes, message_bytes, delivery_value, wanted_value, ihaves_value, Links, is_neighbour, State, Counts, Room, peer_at, settled_actions}
-use Rattle.storage.specs.Lists.Base.{concat_map}
+use Rattle.machine.proofs.Words.{ℕ, ◌*◌, ◌≤◌, ◌<◌, ◌≡◌, refl, sym, ap, ◌∙◌, subst, Bool, true, false, not, ◌&&◌, List, [], ◌∷◌, ◌++◌, arith, leb-true, leb-false, lt-ltb, le-ltb, eqb, ltb, leb, length, get_or, length-append, Option, Some, all, and_right, cases, identifier, Delivery, Swarm, Neighbors, Ihave, Gossip, Prune, Graft, IHave, Received, Broadcast, Fired, SendGraft, DispatchLazyPush, EvictCache, AnnounceDropped, ihave_bytes, message_bytes, delivery_value, wanted_value, ihaves_value, Links, is_neighbour, State, Counts, Room, peer_at, settled_actions}
+use Rattle.storage.specs.Lists.Base.{ascending, concat_map}
 use Rattle.storage.specs.Lists.Map.{keys}
 use Rattle.storage.proofs.ListsLaws.Branches.{if-both}
 use Rattle.storage.specs.Rows.Ident.{id_of}
@@ -26,7 +26,11 @@ use Rattle.decide.specs.Settled.{settled, received_before, too_far_before}
 use Rattle.decide.specs.ActionsAfter.{gossip_actions, message_actions, timer_actions, actions_after}
 use Rattle.decide.specs.StateAfter.{first_state, timer_state, gossip_state, message_state, state_after}
 use Rattle.decide.proofs.SettledLaws.{evicted, settled-links, settled-received}
-use Rattle.announcements.specs.Ihaves.New.{is_received}
+use Rattle.postcard.specs.Number.{groups, number_bytes, number_length}
+use Rattle.announcements.specs.Ihaves.Entries.{is_received}
+use Rattle.announcements.specs.declared.on_ihave.IhaveDecision.{IhaveDecision}
+use Rattle.announcements.specs.OnIhave.{IhaveDecided}
+use Rattle.announcements.proofs.IhavesLaws.DecidedLaws.{decided-few, decided-state, decided-actions}
 use Rattle.announcements.proofs.IhavesLaws.ReceivedLaws.{received-actions, received-state}
 use Rattle.decide.specs.Counted.{message_counts, counts_after_call}
 use Rattle.steps.proofs.AtRestLaws.{settled-as}
@@ -34,6 +38,7 @@ use Rattle.payloads.specs.OnLateGraftReply.{copy_kind, late_value, LateHeld}
 use Rattle.payloads.specs.declared.on_late_graft_reply.Late.{Late}
 use Rattle.payloads.specs.declared.on_gossip.Decision.{Decision}
 use Rattle.payloads.specs.declared.eager_push.Push.{Push}
+use Rattle.announcements.specs.declared.on_announce_dropped_timer.StillCached.{StillCached}
 use Rattle.machine.specs.Kinds.Meaning.{step_actions, step_state, step_far, step_counts, counted_for, ContentHeld, ListHeld, StepHeld, SenderIs, Means}
 use Rattle.machine.specs.declared.kinds.Step.{Step}
 use Rattle.machine.specs.declared.kinds.Step.TheVariants as step
@@ -190,7 +195,7 @@ module _ (now : ℕ) (s : State) (sender : ℕ) (core : CoreOf s) (away : is_nei
 
 -- a neighbour's
 module _ (now : ℕ) (s : State) (sender link : ℕ) (core : CoreOf s) (there : LinkAt s sender link) where
-  there-settled : is_neighbour sender (settled now s).links ≡ true
+  pub there-settled : is_neighbour sender (settled now s).links ≡ true
   there-settled = ap (is_neighbour sender) (settled-links now s) ∙ sym (found-neighbour s sender (Some link) core.links_up there)
 
   peer-settled : peer_at (settled now s) link ≡ sender
@@ -212,14 +217,27 @@ module _ (now : ℕ) (s : State) (sender link : ℕ) (core : CoreOf s) (there : 
   unfolding too_far_before step_far
   means-graft w round = means-message now s (step.Graft link w) sender (Graft (wanted_value w) round) core refl (does-graft w round (settled now s) there-settled peer-settled) there.below tt
 
-  does-ihave : (ihaves : Ihaves) (t : State) → is_neighbour sender t.links ≡ true → peer_at t link ≡ sender → Does now t (step.IHave link ihaves) sender (IHave (ihaves_value ihaves))
+  does-ihave : (hs : List Ihave) (d : IhaveDecision) (t : State) → ascending (keys t.missing) ≡ true → ascending t.timers.graft ≡ true → IhaveDecided t hs d.entries.now d.order.now → is_neighbour sender t.links ≡ true → peer_at t link ≡ sender →
+      Does now t (step.IHave link d) sender (IHave hs)
   unfolding message_actions message_state message_counts step_actions step_state step_counts
-  does-ihave ihaves t a p = record { actions = λ rooms. rw a refl; state = λ rooms. rw (a, p) refl; counts = λ c. refl }
+  does-ihave hs d t u v k a p = record {
+    actions = λ rooms. rw a (decided-actions t hs d.entries.now d.order.now k);
+    state = λ rooms. rw (a, p) (decided-state t hs d.entries.now d.order.now k sender u v);
+    counts = λ c. refl;
+  }
 
-  pub means-ihave : (ihaves : Ihaves) → ListHeld s link ihaves → Means now s (step.IHave link ihaves) (Received sender (IHave (ihaves_value ihaves)))
+  pub means-ihave : (ihaves : Ihaves) (d : IhaveDecision) → ListHeld s link ihaves → IhaveDecided (settled now s) (ihaves_value ihaves) d.entries.now d.order.now → Means now s (step.IHave link d) (Received sender (IHave (ihaves_value ihaves)))
   unfolding too_far_before step_far
-  means-ihave ihaves h =
-      means-message now s (step.IHave link ihaves) sender (IHave (ihaves_value ihaves)) core refl (does-ihave ihaves (settled now s) there-settled peer-settled) h tt
+  means-ihave ihaves d h k =
+      means-message now s (step.IHave link d) sender (IHave (ihaves_value ihaves)) core refl
+      (does-ihave (ihaves_value ihaves) d (settled now s)
+      (settled-as now s (λ (u : State). ascending (keys u.missing)) refl ∙ core.missing_up)
+      (settled-as now s (λ (u : State). ascending u.timers.graft) refl ∙ core.timers_up)
+      k there-settled peer-settled)
+      (record {
+        there = h.there;
+        few = omega (arith, decided-few (settled now s) (ihaves_value ihaves) d.entries.now d.order.now k, announced_count ihaves.count ihaves.bytes.now ihaves.there, h.few);
+      }) tt
 
   does-known-ihave : (hs : List Ihave) (t : State) → is_neighbour sender t.links ≡ true → all (is_received t) hs ≡ true → Does now t step.Nothing sender (IHave hs)
   unfolding message_actions message_state message_counts step_actions step_state step_counts
@@ -269,9 +287,9 @@ module _ (now : ℕ) (s : State) (core : CoreOf s) where
   unfolding too_far_before actions_after state_after counts_after_call timer_actions timer_state counted_for step_far step_actions step_state step_counts
   means-timer-evict = record { far = refl; actions = λ rooms. refl; state = λ rooms. rw (first-settled now s core) refl; counts = λ n. refl; held = tt; sender = tt }
 
-  pub means-timer-announce : Means now s step.AnnounceDropped (Fired AnnounceDropped)
+  pub means-timer-announce : (cached : StillCached) → Means now s (step.AnnounceDropped cached) (Fired AnnounceDropped)
   unfolding too_far_before actions_after state_after counts_after_call timer_actions timer_state counted_for step_far step_actions step_state step_counts
-  means-timer-announce = record { far = refl; actions = λ rooms. refl; state = λ rooms. rw (first-settled now s core) refl; counts = λ n. refl; held = tt; sender = tt }
+  means-timer-announce cached = record { far = refl; actions = λ rooms. refl; state = λ rooms. rw (first-settled now s core) refl; counts = λ n. refl; held = tt; sender = tt }
 
 -- M is at most 4,094
 max-few : (s : State) → Ranged s → s.settings.max_message_size ≤ 4094
@@ -282,11 +300,16 @@ max-few s r = leb-true s.settings.max_message_size 4094 (and_right (leb 510 s.se
 pub gossip-held : (s : State) (id : ℕ) (content : List ℕ) (d : Delivery) → Ranged s → length (message_bytes (Gossip id content d)) ≤ s.settings.max_message_size → ContentHeld content
 gossip-held s id content d r q = record { short = omega (arith, max-few s r, length-gossip id content d, length-content content) }
 
--- as many bytes as announcements, or more
-ihaves-long : (hs : List Ihave) → length hs ≤ length (concat_map ihave_bytes hs)
+-- a number has a byte at least
+number-some : (n : ℕ) → 1 ≤ number_length n
+unfolding number_length number_bytes groups
+number-some n = cases (ltb n 128) (λ p. rw p (omega arith)) (λ p. rw p (omega arith))
+
+-- 33 bytes for each announcement, or more
+ihaves-long : (hs : List Ihave) → 33 * length hs ≤ length (concat_map ihave_bytes hs)
 unfolding concat_map
 ihaves-long [] = omega arith
-ihaves-long (h ∷ hs) = omega (arith, ihaves-long hs, length-append (ihave_bytes h) (concat_map ihave_bytes hs), length-ihave h)
+ihaves-long (h ∷ hs) = omega (arith, ihaves-long hs, length-append (ihave_bytes h) (concat_map ihave_bytes hs), length-ihave h, number-some h.round)
 
 pub ihaves-held : (s : State) (link : ℕ) (ihaves : Ihaves) → Ranged s → link < length s.links → length (message_bytes (IHave (ihaves_value ihaves))) ≤ s.settings.max_message_size → ListHeld s link ihaves
 ihaves-held s link ihaves r t q = record {

@@ -11,7 +11,7 @@ use Rattle.block.specs.NoteSteps.{note}
 use Rattle.block.proofs.LinkLaws.{count-peers}
 use Rattle.block.proofs.Scans.{keys-apart}
 use Rattle.payloads.specs.Eager.Targets.{hands_back}
-use Rattle.payloads.specs.Eager.Scan.{seen_after, seen, wants_note, Starts, SeenFor, Wants}
+use Rattle.payloads.specs.Eager.Scan.{seen_after, seen, wants_note, FirstMarks, SeenFor, Wants}
 
 -- a number more of an array
 pub set_more : (P : ℕ → ℕ → Type 0) (m : List ℕ) (i v : ℕ) → i < length m → ((l : ℕ) → l < i → P l (get_or m l 0)) → P i v → (l : ℕ) → l < i + 1 → P l (get_or (set m i v) l 0)
@@ -152,7 +152,7 @@ module _ (h : Head) (xs : List ℕ) (up : LinksAscend h xs) (id : ℕ) where
     seen-set v k z = seen_step (set m x v) (get_or-set_same m x v 0 k ∙ z) (λ l n. get_or-set_other m x l v 0 n)
 
 -- both together
-pub wants : (to : LinkSet) (rooms : List ℕ) (id : ℕ) (s : State) (n : ℕ) (m r : List ℕ) → Starts to rooms n m → SeenFor s n id m r → Wants to rooms id s n r
+pub wants : (to : LinkSet) (rooms : List ℕ) (id : ℕ) (s : State) (n : ℕ) (m r : List ℕ) → FirstMarks to rooms n m → SeenFor s n id m r → Wants to rooms id s n r
 unfolding wants_note
 wants to rooms id s n m r a b = record {
   each = λ l q.

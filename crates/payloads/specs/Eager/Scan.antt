@@ -23,7 +23,7 @@ wants_note to rooms id s l =
     hands_back to rooms l && not (leb 256 (count (for_peer (peer_at s l)) s.dropped) || any (notes (peer_at s l) id) s.dropped)
 
 -- 0 for each of n links that hands the push back, else 256
-pub record Starts (to : LinkSet) (rooms : List ℕ) (n : ℕ) (r : List ℕ) : Type 0 where
+pub record FirstMarks (to : LinkSet) (rooms : List ℕ) (n : ℕ) (r : List ℕ) : Type 0 where
   pub each : (l : ℕ) → l < n → get_or r l 0 ≡ (if hands_back to rooms l then 0 else 256)
   pub long : length r ≡ 32
 

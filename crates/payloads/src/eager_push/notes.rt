@@ -4,7 +4,7 @@ ghost use Rattle.storage.specs.Rows.Ident.{id_of};
 ghost use Rattle.block.specs.Views.{shown};
 ghost use Rattle.block.specs.Panels.{AtRest};
 ghost use Rattle.steps.specs.LinkSets.{AllBelow};
-ghost use Rattle.payloads.specs.Eager.Scan.{Starts, SeenFor};
+ghost use Rattle.payloads.specs.Eager.Scan.{FirstMarks, SeenFor};
 ghost use Rattle.payloads.specs.EagerPush.Targets.{push_backs};
 ghost use Rattle.payloads.specs.EagerPush.Notes.{NotedAre};
 
@@ -33,7 +33,7 @@ fn is_handed_back(view: &View, call: &Call, to: LinkSet) -> bool
 // For each link 0 if it hands the push back, else 256. Its time is that of one pass over the links.
 fn first_marks(view: &View, call: &Call, to: LinkSet) -> [usize; MAX_LINKS]
     requires { AtRest (shown view.now) × AllBelow to (length (shown view.now).links) }
-    ensures { Starts to call.now.rooms.now.links (length (shown view.now).links) result }
+    ensures { FirstMarks to call.now.rooms.now.links (length (shown view.now).links) result }
 {
     let mut marks = [0usize; MAX_LINKS];
     for link in 0..view.link_count() {

@@ -1,63 +1,63 @@
 -- What a copy within a slice, and a write to a part that was lent, do to the bytes.
 -- Assumes nothing.
-use Rattle.std.proofs.Common.{◌≡◌, sym, ap, ◌∙◌, List, ◌++◌, append_assoc, ℕ, ◌+◌, ◌-◌, ◌≤◌, arith, length, take, drop, length-drop, take-append-drop}
-use lib.Seq.{take-append-le, drop-append-le}
+use Rattle.std.proofs.Common.{◌≡◌, sym, ap, ◌∙◌, List, ◌++◌, ℕ, ◌+◌, ◌-◌, ◌≤◌, arith, length, add-zero}
+use native.Mathlib.Nat.{sub-zero}
 use borrow.Rule.Slice.PartMut.{put_mid}
 use Rattle.storage.specs.Rows.Part.{part, put}
-use Rattle.storage.proofs.RowsLaws.Parts.{length_part, loan-put, part-before, part-add, put-put-prev}
+use Rattle.storage.proofs.RowsLaws.Parts.{length_part, loan-put, part-before, part-after, part-add, put-nil, put-put-prev, put-put-next}
 
 module _ {A : Type 0} where
   pub lent-put : (a k : ℕ) (ys xs : List A) → length ys ≡ k → put_mid a (a + k - a) xs ys ≡ put a ys xs
   lent-put a k ys xs e = let w : a + k - a ≡ k = omega arith in ap (λ (m : ℕ). put_mid a m xs ys) w ∙ loan-put a k ys xs e
 
-  put_left : (a : ℕ) (ys p q : List A) → a + length ys ≤ length p → put a ys (p ++ q) ≡ put a ys p ++ q
-  unfolding put
-  put_left a ys p q h =
-      rw (take-append-le a p q (omega arith), drop-append-le a p q (omega arith), drop-append-le (length ys) (drop a p) q (omega (arith, length-drop a p))) (simp append_assoc)
+  -- the bytes i to j from `from` were copied to `to`
+  abbrev pub Moved : ℕ → ℕ → ℕ → ℕ → List A → List A → Type 0
+  Moved from to i j xs ys = ys ≡ put (to + i) (part (from + i) (j - i) xs) xs
 
-  -- what stands from `from` on, cut off, and a part of it put before it
-  pub apart-put : (from to k : ℕ) (xs front back ys : List A) → front ≡ take from xs → back ≡ drop from xs → length front ≡ from → ys ≡ take k back → to + k ≤ from → from + k ≤ length xs
-      → put_mid to (to + k - to) front ys ++ back ≡ put to (part from k xs) xs
+  pub moved_none : (from to i : ℕ) (xs : List A) → Moved from to i i xs xs
   unfolding part
-  apart-put from to k xs front back ys ef eb lf ey h r =
-      let y : ys ≡ part from k xs = ey ∙ ap (take k) eb in
-      let ly : length ys ≡ k = ap length y ∙ length_part from k xs r in
-      ap (λ (t : List A). t ++ back) (lent-put to k ys front ly)
-      ∙ sym (put_left to ys front back (omega arith))
-      ∙ (λ t. put to (y t) (ef t ++ eb t))
-      ∙ ap (put to (part from k xs)) (take-append-drop from xs)
+  moved_none from to i xs =
+      let e : i - i ≡ 0 = omega arith in
+      rw e (sym (put-nil (to + i) xs))
 
-  -- a block more of a move up, from the last
-  pub move-block-step : (b₀ b ys : List A) (from to len left k : ℕ) → from ≤ to → to + len ≤ length b₀ → k ≤ left → left ≤ len
-      → b ≡ put (to + left) (part (from + left) (len - left) b₀) b₀ → ys ≡ put (to + (left - k)) (part (from + (left - k)) k b) b
-      → ys ≡ put (to + (left - k)) (part (from + (left - k)) (len - (left - k)) b₀) b₀
-  move-block-step b₀ b ys from to len left k h l p q e g =
-      let at : ℕ = left - k in
-      let zs : List A = part (from + left) (len - left) b₀ in
-      let lz : length zs ≡ len - left = length_part (from + left) (len - left) b₀ (omega arith) in
-      let same : part (from + at) k b ≡ part (from + at) k b₀ = ap (part (from + at) k) e ∙ part-before (from + at) k (to + left) zs b₀ (omega arith) (omega arith) in
-      let ls : length (part (from + at) k b₀) ≡ k = length_part (from + at) k b₀ (omega arith) in
-      let there : from + at + k ≡ from + left = omega arith in
-      let many : k + (len - left) ≡ len - at = omega arith in
-      let all : part (from + at) k b₀ ++ zs ≡ part (from + at) (len - at) b₀ =
-      ap (λ (n : ℕ). part (from + at) k b₀ ++ part n (len - left) b₀) (sym there) ∙ sym (part-add (from + at) k (len - left) b₀) ∙ ap (λ (n : ℕ). part (from + at) n b₀) many in
-      g
-      ∙ (λ t. put (to + at) (same t) (e t))
-      ∙ put-put-prev (to + at) (to + left) (part (from + at) k b₀) zs b₀ (omega arith) (omega arith)
-      ∙ ap (λ (t : List A). put (to + at) t b₀) all
+  module _ (from to i j k : ℕ) (xs ys zs : List A) (ij : i ≤ j) (jk : j ≤ k) (fits : from + k ≤ length xs) (room : to + k ≤ length xs) where
+    joined : part (from + i) (j - i) xs ++ part (from + j) (k - j) xs ≡ part (from + i) (k - i) xs
+    joined =
+        let there : from + i + (j - i) ≡ from + j = omega arith in
+        let many : j - i + (k - j) ≡ k - i = omega arith in
+        ap (λ (n : ℕ). part (from + i) (j - i) xs ++ part n (k - j) xs) (sym there) ∙ sym (part-add (from + i) (j - i) (k - j) xs) ∙ ap (λ (n : ℕ). part (from + i) n xs) many
 
-  -- what is left of a move up
-  pub move-rest-step : (b₀ b ys : List A) (from to len left : ℕ) → from ≤ to → to + len ≤ length b₀ → left ≤ len
-      → b ≡ put (to + left) (part (from + left) (len - left) b₀) b₀ → ys ≡ put to (part from left b) b
-      → ys ≡ put to (part from len b₀) b₀
-  move-rest-step b₀ b ys from to len left h l q e g =
-      let zs : List A = part (from + left) (len - left) b₀ in
-      let lz : length zs ≡ len - left = length_part (from + left) (len - left) b₀ (omega arith) in
-      let same : part from left b ≡ part from left b₀ = ap (part from left) e ∙ part-before from left (to + left) zs b₀ (omega arith) (omega arith) in
-      let ls : length (part from left b₀) ≡ left = length_part from left b₀ (omega arith) in
-      let many : left + (len - left) ≡ len = omega arith in
-      let all : part from left b₀ ++ zs ≡ part from len b₀ = sym (part-add from left (len - left) b₀) ∙ ap (λ (n : ℕ). part from n b₀) many in
-      g
-      ∙ (λ t. put to (same t) (e t))
-      ∙ put-put-prev to (to + left) (part from left b₀) zs b₀ (omega arith) (omega arith)
-      ∙ ap (λ (t : List A). put to t b₀) all
+    -- bytes more before them, where they go up
+    pub moved-before : from ≤ to → Moved from to j k xs ys → zs ≡ put (to + i) (part (from + i) (j - i) ys) ys → Moved from to i k xs zs
+    moved-before h e g =
+        let back : List A = part (from + j) (k - j) xs in
+        let lb : length back ≡ k - j = length_part (from + j) (k - j) xs (omega arith) in
+        let lf : length (part (from + i) (j - i) xs) ≡ j - i = length_part (from + i) (j - i) xs (omega arith) in
+        let same : part (from + i) (j - i) ys ≡ part (from + i) (j - i) xs = ap (part (from + i) (j - i)) e ∙ part-before (from + i) (j - i) (to + j) back xs (omega arith) (omega arith) in
+        g
+        ∙ (λ t. put (to + i) (same t) (e t))
+        ∙ put-put-prev (to + i) (to + j) (part (from + i) (j - i) xs) back xs (omega arith) (omega arith)
+        ∙ ap (λ (t : List A). put (to + i) t xs) joined
+
+    -- bytes more behind them, where they go down
+    pub moved-behind : to ≤ from → Moved from to i j xs ys → zs ≡ put (to + j) (part (from + j) (k - j) ys) ys → Moved from to i k xs zs
+    moved-behind h e g =
+        let front : List A = part (from + i) (j - i) xs in
+        let lf : length front ≡ j - i = length_part (from + i) (j - i) xs (omega arith) in
+        let lb : length (part (from + j) (k - j) xs) ≡ k - j = length_part (from + j) (k - j) xs (omega arith) in
+        let same : part (from + j) (k - j) ys ≡ part (from + j) (k - j) xs = ap (part (from + j) (k - j)) e ∙ part-after (from + j) (k - j) (to + i) front xs (omega arith) (omega arith) in
+        g
+        ∙ (λ t. put (to + j) (same t) (e t))
+        ∙ put-put-next (to + i) (to + j) front (part (from + j) (k - j) xs) xs (omega arith) (omega arith)
+        ∙ ap (λ (t : List A). put (to + i) t xs) joined
+
+  -- all of them
+  module _ (from to k : ℕ) (xs ys : List A) where
+    whole : put (to + 0) (part (from + 0) (k - 0) xs) xs ≡ put to (part from k xs) xs
+    whole = λ t. put (add-zero to t) (part (add-zero from t) (sub-zero k t) xs) xs
+
+    pub moved-whole : Moved from to 0 k xs ys → ys ≡ put to (part from k xs) xs
+    moved-whole e = e ∙ whole
+
+    pub whole-moved : ys ≡ put to (part from k xs) xs → ys ≡ put (to + 0) (part (from + 0) (k - 0) xs) xs
+    whole-moved e = e ∙ sym whole

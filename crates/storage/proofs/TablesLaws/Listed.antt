@@ -7,10 +7,10 @@ use borrow.Rule.Slice.PartMut.{put_mid}
 use Rattle.std.proofs.lemmas.List.{get_or_default, drop_all}
 use Rattle.storage.specs.Rows.Part.{part, put}
 use Rattle.storage.specs.Rows.Rows.{rows, opened, closed}
-use Rattle.storage.proofs.RowsLaws.Parts.{length_part, loan-put}
-use Rattle.storage.proofs.RowsLaws.Rows.{length-rows, get_d_rows, rows-put-one, rows-opened, rows-closed, take-rows, row-end, mul-more, put-gap}
+use Rattle.storage.proofs.RowsLaws.Parts.{length_part, loan-put, put-put-prev}
+use Rattle.storage.proofs.RowsLaws.Rows.{length-rows, get_d_rows, rows-put, rows-put-one, rows-part, rows-opened, rows-closed, take-rows, row-end, mul-more, mul-split, mul-up, put-gap}
 use Rattle.storage.proofs.RowsLaws.Views.{map-put, map-gap, map-take, map-drop}
-use Rattle.storage.specs.Tables.Listed.{listed, inserted, removed}
+use Rattle.storage.specs.Tables.Listed.{listed, inserted, removed, merged}
 
 module _ {A : Type 0} (f : List ℕ → A) (w : ℕ) where
   pub length-listed : (n : ℕ) (xs : List ℕ) → length (listed w f n xs) ≡ n
@@ -97,3 +97,20 @@ module _ {A : Type 0} (f : List ℕ → A) (w : ℕ) where
       ∙ ap (map f) (rows-closed w n i (i + 1) xs (omega arith) (omega arith) r)
       ∙ map-append f (take i (rows w n xs)) (drop (i + 1) (rows w n xs))
       ∙ (λ t. map-take f i (rows w n xs) t ++ map-drop f (i + 1) (rows w n xs) t)
+
+  -- rows that were moved up, and a row that was stored before them
+  pub merged-rows : (m n i k x : ℕ) (v : A) (xs bs ys : List ℕ) → x ≡ w → bs ≡ put ((i + k) * x) (part (i * x) ((n - i) * x) xs) xs → i ≤ n → 0 < k → n + k ≤ m → m * w ≤ length xs
+      → listed w f m ys ≡ put (i + k - 1) (v ∷ []) (listed w f m bs) → listed w f m ys ≡ merged n i k v (listed w f m xs)
+  unfolding part
+  merged-rows m n i k x v xs bs ys e g h p l r q =
+      let all : List A = listed w f m xs in
+      let b : i * w + (n - i) * w ≤ length xs = omega (arith, mul-split w n i h, mul-up w n m (omega arith)) in
+      let moved : listed w f m bs ≡ put (i + k) (part i (n - i) all) all =
+      ap (listed w f m) (g ∙ (λ t. put ((i + k) * e t) (part (i * e t) ((n - i) * e t) xs) xs))
+      ∙ ap (map f) (rows-put w (i + k) (n - i) m (part (i * w) ((n - i) * w) xs) xs (length_part (i * w) ((n - i) * w) xs b) (omega arith) r
+      ∙ ap (λ (t : List (List ℕ)). put (i + k) t (rows w m xs)) (rows-part w i (n - i) m xs (omega arith)))
+      ∙ map-put f (i + k) (part i (n - i) (rows w m xs)) (rows w m xs)
+      ∙ ap (λ (t : List A). put (i + k) t all) (map-take f (n - i) (drop i (rows w m xs)) ∙ ap (take (n - i)) (map-drop f i (rows w m xs))) in
+      q
+      ∙ ap (put (i + k - 1) (v ∷ [])) moved
+      ∙ put-put-prev (i + k - 1) (i + k) (v ∷ []) (part i (n - i) all) all (omega arith) (omega (arith, length_part i (n - i) all (omega (arith, length-listed m xs)), length-listed m xs))

@@ -7,87 +7,45 @@ ghost use Rattle.storage.specs.Rows.Sorted.{keys, TellsAscending};
 
 use crate::rows::id;
 
-// How many bytes are moved up by one copy, where there are more.
-const BLOCK: usize = 2048;
+// How many bytes are moved by one copy at most.
+const BLOCK: usize = 1024;
 
-// Copies the `BLOCK` bytes at `from` to `to`, which is not before it: by way of a copy of their own, which is compiled to one move.
-fn move_block(bytes: &mut [u8], from: usize, to: usize)
-    requires { (from ≤ to) × (to + BLOCK ≤ length bytes.old) }
-    ensures { bytes.new ≡ put to (part from BLOCK bytes.old) bytes.old }
-{
-    let mut block = [0; BLOCK];
-    block.copy_from_slice(&bytes[from..from + BLOCK]);
-    let place = &mut bytes[to..to + BLOCK];
-    place.copy_from_slice(&block);
-}
-
-// Copies the last of the `len` bytes at `from` to `to`, which is not before it, block by block from the last: at most `BLOCK` are left, and their number is returned.
-#[inline(never)]
-fn move_blocks(bytes: &mut [u8], from: usize, to: usize, len: usize) -> usize
-    requires { (from ≤ to) × (to + len ≤ length bytes.old) }
-    ensures { (result ≤ len) × (bytes.new ≡ put (to + result) (part (from + result) (len - result) bytes.old) bytes.old) }
-{
-    let mut left = len;
-    while left > BLOCK {
-        left -= BLOCK;
-        move_block(bytes, from + left, to + left);
-    }
-    left
-}
-
-// Copies the `len` bytes at `from` to `to`, which is not before it: from the last byte to the first, since the two may overlap.
-fn slide_up(bytes: &mut [u8], from: usize, to: usize, len: usize)
-    requires { (from ≤ to) × (to + len ≤ length bytes.old) }
+// Copies at most `BLOCK` bytes at `from` to `to`, where the two may overlap: by way of a copy of their own, which is compiled to one move.
+fn move_block(bytes: &mut [u8], from: usize, to: usize, len: usize)
+    requires { (len ≤ BLOCK) × (from + len ≤ length bytes.old) × (to + len ≤ length bytes.old) }
     ensures { bytes.new ≡ put to (part from len bytes.old) bytes.old }
 {
-    for i in (0..len).rev() {
-        bytes[to + i] = bytes[from + i];
-    }
+    let mut block = [0; BLOCK];
+    let copy = &mut block[..len];
+    copy.copy_from_slice(&bytes[from..from + len]);
+    let place = &mut bytes[to..to + len];
+    place.copy_from_slice(copy);
 }
 
-// Copies the `len` bytes at `from` to `to`, which is not before it.
+// Copies the `len` bytes at `from` to `to`, which is not before it: block by block from the last, since the two may overlap.
 pub fn move_up(bytes: &mut [u8], from: usize, to: usize, len: usize)
     requires { (from ≤ to) × (to + len ≤ length bytes.old) }
     ensures { bytes.new ≡ put to (part from len bytes.old) bytes.old }
 {
-    if len <= BLOCK {
-        slide_up(bytes, from, to, len);
-    } else {
-        let left = move_blocks(bytes, from, to, len);
-        slide_up(bytes, from, to, left);
+    let mut left = len;
+    while left > BLOCK {
+        left -= BLOCK;
+        move_block(bytes, from + left, to + left, BLOCK);
     }
+    move_block(bytes, from, to, left);
 }
 
-// Copies the `len` bytes at `from` to `to`, which is not after it: from the first byte to the last, since the two may overlap.
-fn slide_down(bytes: &mut [u8], from: usize, to: usize, len: usize)
-    requires { (to ≤ from) × (from + len ≤ length bytes.old) }
-    ensures { bytes.new ≡ put to (part from len bytes.old) bytes.old }
-{
-    for i in 0..len {
-        bytes[to + i] = bytes[from + i];
-    }
-}
-
-// Copies the `len` bytes at `from` to `to`, which ends before it: by one copy, which for a row of known length is a few vector moves.
-fn move_apart(bytes: &mut [u8], from: usize, to: usize, len: usize)
-    requires { (to + len ≤ from) × (from + len ≤ length bytes.old) }
-    ensures { bytes.new ≡ put to (part from len bytes.old) bytes.old }
-{
-    let (front, back) = bytes.split_at_mut(from);
-    let place = &mut front[to..to + len];
-    place.copy_from_slice(&back[..len]);
-}
-
-// Copies the `len` bytes at `from` to `to`, which is not after it.
+// Copies the `len` bytes at `from` to `to`, which is not after it: block by block from the first, since the two may overlap.
 pub fn move_down(bytes: &mut [u8], from: usize, to: usize, len: usize)
     requires { (to ≤ from) × (from + len ≤ length bytes.old) }
     ensures { bytes.new ≡ put to (part from len bytes.old) bytes.old }
 {
-    if len <= from - to {
-        move_apart(bytes, from, to, len);
-    } else {
-        slide_down(bytes, from, to, len);
+    let mut done = 0;
+    while len - done > BLOCK {
+        move_block(bytes, from + done, to + done, BLOCK);
+        done += BLOCK;
     }
+    move_block(bytes, from + done, to + done, len - done);
 }
 
 // Opens a gap of one row at row i of n, which holds what stood there.

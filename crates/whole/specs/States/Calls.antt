@@ -8,7 +8,8 @@ use Rattle.refusal.specs.declared.Refusal.TheVariants.{BlockNotWhole, AreaNotWho
 use Rattle.protocol.specs.State.{Counts}
 use Rattle.whole.specs.Held.{whole_block}
 use Rattle.whole.specs.States.Area.{kept, area_holds, name_at, SaveAnswer, not_saved, saved_to, save, ReturnAnswer, not_returned, brought_back, go_back}
-use Rattle.whole.specs.declared.states.Counts.{Counts as KeptCounts}
+use Rattle.whole.specs.Stats.{counts_of}
+use Rattle.whole.specs.declared.stats.Stats.{Stats}
 
 -- questions 5 and 17: how many states the area keeps
 unfoldable pub area_asked : List ℕ → List ℕ → Result ℕ Refusal
@@ -55,17 +56,13 @@ pub record Returns (block : List ℕ) (counts : Counts) (area : List ℕ) (name 
   pub back : block' ≡ block_left (go_back block area name) block
   pub left : counts' ≡ counts_left (go_back block area name) counts
 
--- the counts as the code has them
-abbrev pub counts_of : KeptCounts → Counts
-counts_of c = record { payload = c.payload; control = c.control; hops = c.hops }
-
 -- the counts after a return that answers r, of a panel that had the old ones
-abbrev pub counts_after : Result KeptCounts Refusal → Counts → Counts
+abbrev pub counts_after : Result Stats Refusal → Counts → Counts
 counts_after (Ok c) old = counts_of c
 counts_after (Err r) old = old
 
 -- what `go_back` answers and leaves, whatever counts the panel has
-abbrev pub GoesBack : List ℕ → List ℕ → ℕ → List ℕ → Result KeptCounts Refusal → Type 0
+abbrev pub GoesBack : List ℕ → List ℕ → ℕ → List ℕ → Result Stats Refusal → Type 0
 GoesBack block area name block' r = (old : Counts) → Returns block old area name block' (counts_after r old) (answer_of r) 0
 
 -- what a test answers

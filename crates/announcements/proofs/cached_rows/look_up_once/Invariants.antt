@@ -1,11 +1,11 @@
 -- `look_up_once`: the rows passed are told.
-use Rattle.announcements.proofs.Words.{◌≡◌, length, shown}
+use Rattle.announcements.proofs.Words.{◌≡◌, length, settled, shown}
 use Rattle.announcements.specs.CachedRows.{CachedTold}
 use Rattle.announcements.proofs.cached_rows.look_up_once.Given as goal
 
 abbrev pub invariant-loop-row : goal.invariant-loop-row
 invariant-loop-row l = record {
-  told : CachedTold l.when (shown l.view) l.row l.cached;
+  told : CachedTold (settled l.instant.0 (shown l.view)) l.row l.cached;
   long : length l.cached ≡ length l.initial.cached;
   places : length l.places ≡ 4096;
 }

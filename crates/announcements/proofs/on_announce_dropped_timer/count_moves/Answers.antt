@@ -1,9 +1,8 @@
--- `count_moves` meets its contract: the settled sizes, with what moves and what stays.
-use Rattle.announcements.proofs.Words.{◌+◌, ◌<◌, ◌≤◌, ◌∙◌, sym, ap, length, get_or, arith, List, [], ◌∷◌, not, false, true, ltb-true, ltb-false, length-append, not-true, not-false, id_of, keys, State, Note, oldest, younger, note, count-queue, count-dropped, shown, sizes_value, links-few}
+-- `count_moves` meets its contract: what moves and what stays of the rows passed, once all are.
+use Rattle.announcements.proofs.Words.{◌≡◌, ◌+◌, ◌<◌, ◌≤◌, ◌∙◌, sym, ap, length, get_or, arith, List, [], ◌∷◌, not, Bool, false, true, ltb-true, ltb-false, length-append, not-true, not-false, id_of, keys, State, Note, oldest, younger, note, settled, shown, links-few}
 use Rattle.announcements.proofs.AnnounceLaws.Turns.{Read, moves, moves-alone, stays, stays-alone}
-use Rattle.announcements.proofs.OnAnnounceDroppedTimerLaws.{still, held_then, entry, passing-start, passing-skip, passing-more, link-low, seen-small, still-not, passed-few, oldest-start, younger-start, sized-end, queued-of}
-use Rattle.announcements.specs.declared.cached_rows.When.TheVariants.{Then}
-use Rattle.announcements.proofs.CachedRowsLaws.{told-as}
+use Rattle.announcements.proofs.OnAnnounceDroppedTimerLaws.{still, held_then, entry, passing-start, passing-skip, passing-more, link-low, seen-small, still-not, passed-few, oldest-start, younger-start, still-end}
+use Rattle.announcements.proofs.CachedRowsLaws.{told-as, row-then, rows-then}
 use Rattle.announcements.proofs.on_announce_dropped_timer.count_moves.Goals as goal
 use Rattle.announcements.proofs.on_announce_dropped_timer.count_moves.Goals.{After-recorded-note, then-is_oldest, else-is_oldest}
 
@@ -23,7 +22,7 @@ module _ (d : After-recorded-note) where
   s = shown d.args.view.now
 
   low : d.loop-row.row < length s.dropped
-  low = let v = d.args.view.now in omega (arith, d.loop-row-test.true, count-dropped v.head.now v.block.now v.sound)
+  low = omega (arith, d.loop-row-test.true, d.record_len-row-end.ensures.long)
 
   few : length s.links ≤ 32
   few = links-few d.args.view.now.head.now d.args.view.now.block.now d.args.view.now.sound
@@ -36,18 +35,23 @@ module _ (d : After-recorded-note) where
   counted =
       omega (arith, d.loop-row.invariant.moved, d.loop-row.invariant.left, passed-few (held_then d.args.call.now.instant.0 s) s d.requires.rest d.loop-row.row d.loop-row.passed.counts d.loop-row.invariant.passing)
 
-pub bounds-cached-row : goal.bounds-cached-row
-bounds-cached-row c = omega (arith, low (goal.at.bounds-cached-row c).After-recorded-note, c.requires.cached.long)
+  -- whether it is cached
+  told : (b : Bool) → get_or d.args.cached.now d.loop-row.row false ≡ b → held_then d.args.call.now.instant.0 s (id_of d.recorded-note.result.id) ≡ b
+  told b e =
+      let now = d.args.call.now.instant.0 in
+      told-as (settled now s) d.args.cached.now d.requires.cached d.loop-row.row (omega (arith, low, rows-then now s)) (id_of d.recorded-note.result.id) (row-then now s d.loop-row.row d.recorded-note.result d.recorded-note.ensures) b e
 
-pub recorded-note-requires : goal.recorded-note-requires
-recorded-note-requires c = let v = c.args.view.now in omega (arith, c.loop-row-test.true, count-dropped v.head.now v.block.now v.sound)
+pub bounds-cached-row : goal.bounds-cached-row
+bounds-cached-row c =
+    let d = (goal.at.bounds-cached-row c).After-recorded-note in
+    omega (arith, low d, rows-then c.args.call.now.instant.0 (s d), c.requires.cached.long)
 
 pub loop-row-preserved-then-not-cached-row : goal.loop-row-preserved-then-not-cached-row
 loop-row-preserved-then-not-cached-row c =
     let d = (goal.at.loop-row-preserved-then-not-cached-row c).After-recorded-note in
     let held = held_then c.args.call.now.instant.0 (s d) in
     let n = c.recorded-note in
-    let e = told-as (Then c.args.call.now.instant) (s d) c.args.cached.now c.requires.cached c.loop-row.row (low d) c.recorded-note.result c.recorded-note.ensures false (not-true (get_or c.args.cached.now c.loop-row.row false) (ap not c.if-not-cached-row.true)) in
+    let e = told d false (not-true (get_or c.args.cached.now c.loop-row.row false) (ap not c.if-not-cached-row.true)) in
     let same = still-not held (s d) c.loop-row.row (low d) n.result n.ensures e in
     record {
       passing = passing-skip held (s d) c.requires.rest (few d) c.loop-row.row c.loop-row.passed.counts c.loop-row.invariant.passing (low d) n.result n.ensures e;
@@ -71,26 +75,15 @@ overflow_add-moved c = omega (arith, counted (goal.at.overflow_add-moved c).Afte
 pub overflow_add-left : goal.overflow_add-left
 overflow_add-left c = omega (arith, counted (goal.at.overflow_add-left c).After-recorded-note)
 
-pub overflow_add-sizes : goal.overflow_add-sizes
-overflow_add-sizes c =
-    let v = c.args.view.now in
-    let now = c.args.call.now.instant.0 in
-    omega (
-      arith,
-      c.loop-row.invariant.moved,
-      passed-few (held_then now (shown v)) (shown v) c.requires.rest c.loop-row.row c.loop-row.passed.counts c.loop-row.invariant.passing,
-      queued-of now (shown v) c.sizes_then-sizes.result c.sizes_then-sizes.ensures,
-      count-queue v.head.now v.block.now v.sound,
-      v.sound.fit.within.queued,
-      v.sound.fit.ceilings.Q,
-    )
-
 pub returns : goal.returns
 returns c =
     let v = c.args.view.now in
-    sized-end c.args.call.now.instant.0 (shown v) c.loop-row.row c.loop-row.moved c.loop-row.left c.sizes_then-sizes.result.queued (sizes_value c.sizes_then-sizes.result) c.sizes_then-sizes.ensures
-    (queued-of c.args.call.now.instant.0 (shown v) c.sizes_then-sizes.result c.sizes_then-sizes.ensures)
-    (omega (arith, c.loop-row-test.false, count-dropped v.head.now v.block.now v.sound)) c.loop-row.invariant.moved c.loop-row.invariant.left
+    let all = still-end c.args.call.now.instant.0 (shown v) c.loop-row.row (omega (arith, c.loop-row-test.false, c.record_len-row-end.ensures.long)) in
+    record {
+      rows = c.requires.cached;
+      moved = c.loop-row.invariant.moved ∙ ap (λ (ns : List Note). length (oldest [] ns)) all;
+      left = c.loop-row.invariant.left ∙ ap (λ (ns : List Note). length (younger [] ns)) all;
+    }
 
 pub loop-row-preserved : goal.loop-row-preserved
 loop-row-preserved c =
@@ -100,7 +93,7 @@ loop-row-preserved c =
     let i = c.loop-row.row in
     let seen = get_or c.loop-row.passed.counts n.result.link 0 in
     let at = get_or (s d).dropped i (note 0 0 0) in
-    let e = told-as (Then c.args.call.now.instant) (s d) c.args.cached.now c.requires.cached c.loop-row.row (low d) c.recorded-note.result c.recorded-note.ensures true (not-false (get_or c.args.cached.now c.loop-row.row false) (ap not c.if-not-cached-row.false)) in
+    let e = told d true (not-false (get_or c.args.cached.now c.loop-row.row false) (ap not c.if-not-cached-row.false)) in
     record {
       passing = passing-more held (s d) c.requires.rest (few d) i c.loop-row.passed.counts c.loop-row.invariant.passing (low d) n.result n.ensures e c.is_oldest.new.self.counts c.is_oldest.ensures.counts;
       moved = elim c.if-is_oldest.branch [

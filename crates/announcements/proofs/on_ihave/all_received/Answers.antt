@@ -1,6 +1,6 @@
 -- `all_received`: the entries that are left decide.
 use Rattle.announcements.proofs.Words.{◌+◌, rules, not, sym, ap, ◌∙◌, not-true, not-false, ihave_value, ihaves_value, settled, shown}
-use Rattle.announcements.specs.Ihaves.New.{is_received}
+use Rattle.announcements.specs.Ihaves.Entries.{is_received}
 use Rattle.announcements.proofs.IhavesLaws.ReceivedLaws.{rest-start, rest_end, rest-next, rest-fails}
 use Rattle.announcements.proofs.IhavesLaws.WalkLaws.{after_none, after-end, after-here, after-next}
 use Rattle.announcements.proofs.on_ihave.all_received.Goals as goal

@@ -1,6 +1,6 @@
 -- `all_received`: the entries that are left decide.
 use Rattle.announcements.proofs.Words.{ihaves_value, settled, shown}
-use Rattle.announcements.specs.Ihaves.New.{is_received}
+use Rattle.announcements.specs.Ihaves.Entries.{is_received}
 use Rattle.announcements.proofs.IhavesLaws.ReceivedLaws.{Rest}
 use Rattle.announcements.proofs.IhavesLaws.WalkLaws.{Walk}
 use Rattle.announcements.proofs.on_ihave.all_received.Given as goal

@@ -1,12 +1,9 @@
 -- `ihave_actions`: after i entries the timers of the first i are written.
-use Rattle.announcements.proofs.Words.{◌≡◌, take, ihaves_value, settled, shown}
+use Rattle.announcements.proofs.Words.{◌≡◌, take, shown, settled}
 use Rattle.wire.specs.Encode.Intake.{after}
+use Rattle.announcements.specs.OnIhave.{entries_value}
 use Rattle.announcements.proofs.OnIhaveLaws.{scheduled}
-use Rattle.announcements.proofs.IhavesLaws.WalkLaws.{After}
 use Rattle.announcements.proofs.on_ihave.ihave_actions.Given as goal
 
-abbrev pub invariant-loop-ihave : goal.invariant-loop-ihave
-invariant-loop-ihave g l = record {
-  walk : After (ihaves_value l.fn.ihaves) (ihaves_value l.ihave-iterator) l.i;
-  so : g.S.Sink.intake l.out ≡ after (scheduled (settled l.call.instant.0 (shown l.view)) (take l.i (ihaves_value l.fn.ihaves))) (g.S.Sink.intake l.initial.out);
-}
+abbrev pub invariant-loop-entry : goal.invariant-loop-entry
+invariant-loop-entry g l = g.S.Sink.intake l.out ≡ after (scheduled (settled l.call.instant.0 (shown l.view)) (entries_value (take l.entry-index l.decision.entries.now))) (g.S.Sink.intake l.initial.out)

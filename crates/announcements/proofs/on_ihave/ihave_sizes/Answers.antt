@@ -1,42 +1,29 @@
--- `ihave_sizes`: after i entries the numbers are those with the first i.
-use Rattle.announcements.proofs.Words.{◌<◌, ◌∙◌, arith, List, take, subst, rules, id_of, Ihave, ihave_value, ihaves_value, settled, peer_at, shown}
-use Rattle.wire.proofs.ReaderLaws.AnnouncedLaws.{announced_count}
+-- `ihave_sizes`: after i entries the numbers are those of the first i.
+use Rattle.announcements.proofs.Words.{sym, ap, ◌∙◌, arith, List, take, get_or, settled, peer_at, shown, sizes_value}
+use Rattle.std.proofs.Common.{take_all}
 use Rattle.block.proofs.TimerLaws.{count-timers}
 use Rattle.block.proofs.MissingLaws.{count-missing}
 use Rattle.steps.proofs.EvictStepLaws.{rest-settled}
-use Rattle.announcements.specs.OnIhave.{Adds}
-use Rattle.announcements.proofs.OnIhaveLaws.{sized-start, sized-next, sized-end, sized-few, byte-few, then-missing, then-timers}
-use Rattle.announcements.proofs.IhavesLaws.WalkLaws.{after_none, after-end, after-taken, after-next, after-below}
+use Rattle.announcements.specs.declared.on_ihave.Unreceived.{Unreceived}
+use Rattle.announcements.specs.OnIhave.{entry_value, entries_value}
+use Rattle.announcements.proofs.OnIhaveLaws.{counted, counted-start, counted-next, counted-end, counted-few, byte-few, then-missing, then-timers}
+use Rattle.announcements.proofs.IhavesLaws.Ordered.{nothing, value-more, few-taken}
 use Rattle.announcements.proofs.on_ihave.ihave_sizes.Goals as goal
-use Rattle.announcements.proofs.on_ihave.ihave_sizes.Goals.{In-Some, After-new_of-new}
 
-pub loop-ihave-init : goal.loop-ihave-init
-loop-ihave-init c =
-    let a = c.args in
-    record { after = after_none (search rules); so = sized-start (settled a.call.now.instant.0 (shown a.view.now)) (ihaves_value a.ihaves) _ c.sizes_then-sizes.ensures }
-
--- fewer have been taken than there are
-below : (d : In-Some) → d.loop-ihave.i < d.args.ihaves.count
-below d =
-    let a = d.args in
-    omega (arith, after-below d.loop-ihave.invariant.after d.in-Some.ensures.steps, announced_count a.ihaves.count a.ihaves.bytes.now a.ihaves.there)
-
-pub first-requires : goal.first-requires
-first-requires c = omega (arith, below (goal.at.first-requires c).In-Some)
-
-pub overflow_add-i : goal.overflow_add-i
-overflow_add-i c = omega (arith, below (goal.at.overflow_add-i c).In-Some, c.well_formed)
+pub loop-entry-init : goal.loop-entry-init
+loop-entry-init c = c.sizes_then-sizes.ensures ∙ counted-start (settled c.args.call.now.instant.0 (shown c.args.view.now))
 
 pub overflow_add-sizes : goal.overflow_add-sizes
 overflow_add-sizes c =
     let v = c.args.view.now in
     let now = c.args.call.now.instant.0 in
-    let l = c.loop-ihave in
+    let es = c.args.decision.now.entries.now in
+    let l = c.loop-entry in
     omega (
       arith,
-      below (goal.at.overflow_add-sizes c).In-Some,
-      byte-few (settled now (shown v)) (ihaves_value c.args.ihaves) c.new_of-new.result.missing,
-      (sized-few (settled now (shown v)) (ihaves_value c.args.ihaves) l.i l.sizes l.invariant.so).0,
+      byte-few (get_or es l.entry-index nothing).adds_missing,
+      (counted-few (settled now (shown v)) (entries_value (take l.entry-index es)) (sizes_value l.sizes) l.invariant).0,
+      few-taken l.entry-index es,
       then-missing now (shown v),
       count-missing v.head.now v.block.now,
       v.sound.fit.within.missing,
@@ -44,16 +31,17 @@ overflow_add-sizes c =
       c.requires.few,
     )
 
-pub overflow_add-sizes-in-loop-ihave : goal.overflow_add-sizes-in-loop-ihave
-overflow_add-sizes-in-loop-ihave c =
+pub overflow_add-sizes-in-loop-entry : goal.overflow_add-sizes-in-loop-entry
+overflow_add-sizes-in-loop-entry c =
     let v = c.args.view.now in
     let now = c.args.call.now.instant.0 in
-    let l = c.loop-ihave in
+    let es = c.args.decision.now.entries.now in
+    let l = c.loop-entry in
     omega (
       arith,
-      below (goal.at.overflow_add-sizes-in-loop-ihave c).In-Some,
-      byte-few (settled now (shown v)) (ihaves_value c.args.ihaves) c.new_of-new.result.timer,
-      (sized-few (settled now (shown v)) (ihaves_value c.args.ihaves) l.i l.sizes l.invariant.so).1,
+      byte-few (get_or es l.entry-index nothing).adds_timer,
+      (counted-few (settled now (shown v)) (entries_value (take l.entry-index es)) (sizes_value l.sizes) l.invariant).1,
+      few-taken l.entry-index es,
       then-timers now (shown v),
       count-timers v.head.now v.block.now,
       v.sound.fit.within.timers,
@@ -61,23 +49,22 @@ overflow_add-sizes-in-loop-ihave c =
       c.requires.few,
     )
 
--- what the entry adds
-adds : (d : After-new_of-new) → Adds (settled d.args.call.now.instant.0 (shown d.args.view.now)) (take d.loop-ihave.i (ihaves_value d.args.ihaves)) (id_of d.in-Some.ihave.id) d.new_of-new.result
-adds d = subst (λ (l : List Ihave). Adds (settled d.args.call.now.instant.0 (shown d.args.view.now)) l (id_of d.in-Some.ihave.id) d.new_of-new.result) d.first.ensures d.new_of-new.ensures
-
-pub loop-ihave-preserved : goal.loop-ihave-preserved
-loop-ihave-preserved c =
-    let a = c.args in
-    let l = c.loop-ihave in
-    record {
-      after = after-next l.invariant.after c.in-Some.ensures.steps;
-      so = sized-next (settled a.call.now.instant.0 (shown a.view.now)) (ihaves_value a.ihaves) l.i l.sizes l.invariant.so (ihave_value c.in-Some.ihave) (after-taken l.invariant.after c.in-Some.ensures.steps) c.new_of-new.result
-          (adds (goal.at.loop-ihave-preserved c).After-new_of-new);
-    }
+pub loop-entry-preserved : goal.loop-entry-preserved
+loop-entry-preserved c =
+    let t = settled c.args.call.now.instant.0 (shown c.args.view.now) in
+    let es = c.args.decision.now.entries.now in
+    let l = c.loop-entry in
+    let e = get_or es l.entry-index nothing in
+    let adds = c.requires.decided.adds l.entry-index nothing c.loop-entry-test.true in
+    counted-next t (entries_value (take l.entry-index es)) (entry_value e) (sizes_value l.sizes) e.adds_missing e.adds_timer l.invariant adds.missing adds.timer
+    ∙ ap (counted t) (sym (value-more es l.entry-index c.loop-entry-test.true))
 
 pub returns : goal.returns
 returns c link =
     let a = c.args in
-    let l = c.loop-ihave in
+    let l = c.loop-entry in
     let t = settled a.call.now.instant.0 (shown a.view.now) in
-    l.invariant.so ∙ sized-end t (ihaves_value a.ihaves) (rest-settled a.call.now.instant.0 (shown a.view.now) c.requires.rest) l.i (after-end l.invariant.after c.in-None.ensures.steps.0) (peer_at t link)
+    let es = a.decision.now.entries.now in
+    l.invariant
+    ∙ ap (λ (x : List Unreceived). counted t (entries_value x)) (take_all l.entry-index es c.loop-entry-test.false)
+    ∙ counted-end t (entries_value es) c.requires.decided.count (rest-settled a.call.now.instant.0 (shown a.view.now) c.requires.rest) (peer_at t link)

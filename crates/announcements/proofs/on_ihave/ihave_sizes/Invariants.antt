@@ -1,11 +1,8 @@
--- `ihave_sizes`: after i entries the numbers are those with the first i.
-use Rattle.announcements.proofs.Words.{◌≡◌, take, ihaves_value, settled, sizes_value, shown}
-use Rattle.decide.proofs.SizesAfter.{ihave_sizes}
-use Rattle.announcements.proofs.IhavesLaws.WalkLaws.{After}
+-- `ihave_sizes`: after i entries the numbers are those of the first i.
+use Rattle.announcements.proofs.Words.{◌≡◌, take, shown, settled, sizes_value}
+use Rattle.announcements.specs.OnIhave.{entries_value}
+use Rattle.announcements.proofs.OnIhaveLaws.{counted}
 use Rattle.announcements.proofs.on_ihave.ihave_sizes.Given as goal
 
-abbrev pub invariant-loop-ihave : goal.invariant-loop-ihave
-invariant-loop-ihave l = record {
-  after : After (ihaves_value l.fn.ihaves) (ihaves_value l.ihave-iterator) l.i;
-  so : sizes_value l.sizes ≡ ihave_sizes (take l.i (ihaves_value l.fn.ihaves)) (settled l.call.instant.0 (shown l.view));
-}
+abbrev pub invariant-loop-entry : goal.invariant-loop-entry
+invariant-loop-entry l = sizes_value l.sizes ≡ counted (settled l.call.instant.0 (shown l.view)) (entries_value (take l.entry-index l.decision.entries.now))

@@ -2,7 +2,7 @@
 use Rattle.std.proofs.Common.{◌≡◌, ◌^◌, ◌<◌, sym, ap, ◌∙◌, arith, true, false, Bool, ltb, lt-ltb, le-ltb}
 use Rattle.protocol.specs.Handle.{one_payload, one_control}
 use Rattle.protocol.specs.Answer.{counts_below}
-use Rattle.machine.specs.Called.{counts_of}
+use Rattle.whole.specs.Stats.{counts_of}
 use Rattle.machine.specs.Core.{is_payload, counted_as}
 use Rattle.machine.proofs.RunLaws.{stay-payload, stay-control}
 use Rattle.machine.proofs.event.count_message.Goals as goal

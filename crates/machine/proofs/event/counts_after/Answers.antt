@@ -1,6 +1,6 @@
 -- `counts_after`: by the step.
 use Rattle.machine.proofs.Words.{sym, ap, ◌∙◌, eqb-false}
-use Rattle.machine.specs.Called.{counts_of}
+use Rattle.whole.specs.Stats.{counts_of}
 use Rattle.machine.specs.Kinds.Meaning.{step_far, step_counts}
 use Rattle.machine.specs.declared.kinds.Step.{Step}
 use Rattle.machine.proofs.StepLaws.{others-counted}

@@ -6,7 +6,8 @@ use Rattle.whole.proofs.WholeLaws.{no_limits}
 use Rattle.refusal.specs.Numbers.{number_of}
 use Rattle.protocol.specs.Answer.{Call}
 use Rattle.whole.specs.Held.{held}
-use Rattle.machine.specs.Called.{counts_of, call_of, lent}
+use Rattle.whole.specs.Stats.{counts_of}
+use Rattle.machine.specs.Called.{call_of, lent}
 use Rattle.block.specs.declared.panel.Panel.{Panel}
 use Rattle.steps.specs.Rooms.{rooms_in}
 use Rattle.machine.specs.Core.{core_rooms, event_size}
@@ -14,7 +15,7 @@ use Rattle.machine.specs.Decided.{answered, event_plan}
 use Rattle.machine.specs.Steps.{Keeps}
 use Rattle.machine.proofs.CoreLaws.{Reads, begun-reads, begun-fault, rest-of, long-of, answer-5, core-outcome, found-no, found-yes}
 use Rattle.machine.proofs.RunLaws.{left-holds}
-use Rattle.machine.proofs.TickLaws.{found-same, done-answered}
+use Rattle.machine.proofs.AnsweredLaws.{found-same, done-answered}
 use Rattle.machine.proofs.event.event_core.Goals as goal
 use Rattle.machine.proofs.event.event_core.Goals.{Start, In_ok-event, After-answer-answered}
 
@@ -61,7 +62,7 @@ invariant_of-panel-clause-sound c = sound (goal.at.invariant_of-panel-clause-sou
 pub answer-answered-requires : goal.answer-answered-requires
 answer-answered-requires c =
     let l = (goal.at.answer-answered-requires c).In_ok-event in
-    (rest l, c.in_ok-event.ensures.shortened, c.event_peer.ensures, (reads l).early)
+    record { rest = rest l; shortened = c.in_ok-event.ensures.shortened; peer = c.event_peer.ensures; early = (reads l).early }
 
 -- what the caller finds is what questions 10 to 14 find of the event
 outcome : (c : After-answer-answered) → asks (goal.at.After-answer-answered c).Start

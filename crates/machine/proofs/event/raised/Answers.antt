@@ -1,5 +1,5 @@
 -- `raised`: by the largest so far.
-use Rattle.machine.specs.Called.{counts_of}
+use Rattle.whole.specs.Stats.{counts_of}
 use Rattle.machine.proofs.RunLaws.{raise-not, raise-up}
 use Rattle.machine.proofs.event.raised.Goals as goal
 

@@ -1,17 +1,44 @@
--- `ihave_step`: by whether every identifier is received.
-use Rattle.machine.proofs.Words.{refl, sym, ◌∙◌, ihaves_value, shown, peer_at}
-use Rattle.machine.proofs.KindsLaws.MeaningLaws.{means-ihave, means-known-ihave}
+-- `ihave_step`: by what was decided of its entries.
+use Rattle.machine.proofs.Words.{refl, subst, ihaves_value, settled, peer_at}
+use Rattle.block.specs.Found.{LinkAt}
+use Rattle.announcements.proofs.IhavesLaws.DecidedLaws.{decided-each}
+use Rattle.machine.specs.declared.kinds.DecidedRows.{DecidedRows}
+use Rattle.machine.specs.Kinds.Meaning.{EntriesFor}
+use Rattle.machine.proofs.KindsLaws.MeaningLaws.{means-ihave, means-known-ihave, there-settled}
 use Rattle.machine.proofs.kinds.ihave_step.Goals as goal
 
-pub returns-then-all_received-clause-means : goal.returns-then-all_received-clause-means
-returns-then-all_received-clause-means c =
+pub returns-in-Entries-clause-means : goal.returns-in-Entries-clause-means
+returns-in-Entries-clause-means c now s rest held k =
     let a = c.args in
-    let t = shown a.view.now in
-    means-known-ihave a.call.now.instant.0 t (peer_at t a.link) a.link c.requires.0.consistent.core (record { below = c.requires.1.there; peer = refl }) (ihaves_value a.ihaves)
-    (sym c.all_received.ensures ∙ c.if-all_received.true)
+    means-ihave now s (peer_at s a.link) a.link rest.consistent.core (record { below = held.there; peer = refl }) a.ihaves c.in-Entries.decision held
+    (subst (λ (r : DecidedRows). EntriesFor (peer_at s a.link) a.ihaves (settled now s) r) c.in-Entries.is k)
 
-pub returns-clause-means : goal.returns-clause-means
-returns-clause-means c =
+pub returns-in-Entries-clause-decided : goal.returns-in-Entries-clause-decided
+returns-in-Entries-clause-decided c call s p k =
     let a = c.args in
-    let t = shown a.view.now in
-    means-ihave a.call.now.instant.0 t (peer_at t a.link) a.link c.requires.0.consistent.core (record { below = c.requires.1.there; peer = refl }) a.ihaves c.requires.1
+    decided-each s (ihaves_value a.ihaves) c.in-Entries.decision.entries.now c.in-Entries.decision.order.now
+    (subst (λ (r : DecidedRows). EntriesFor p a.ihaves s r) c.in-Entries.is k)
+
+pub returns-in-Nothing-clause-means : goal.returns-in-Nothing-clause-means
+returns-in-Nothing-clause-means c now s rest held k =
+    let a = c.args in
+    let core = rest.consistent.core in
+    let there : LinkAt s (peer_at s a.link) a.link = record { below = held.there; peer = refl } in
+    means-known-ihave now s (peer_at s a.link) a.link core there (ihaves_value a.ihaves)
+    (subst (λ (r : DecidedRows). EntriesFor (peer_at s a.link) a.ihaves (settled now s) r) c.in-Nothing.is k (there-settled now s (peer_at s a.link) a.link core there) held.few)
+
+pub returns-in-Noted-clause-means : goal.returns-in-Noted-clause-means
+returns-in-Noted-clause-means c now s rest held k =
+    let a = c.args in
+    let core = rest.consistent.core in
+    let there : LinkAt s (peer_at s a.link) a.link = record { below = held.there; peer = refl } in
+    means-known-ihave now s (peer_at s a.link) a.link core there (ihaves_value a.ihaves)
+    (subst (λ (r : DecidedRows). EntriesFor (peer_at s a.link) a.ihaves (settled now s) r) c.in-Noted.is k (there-settled now s (peer_at s a.link) a.link core there) held.few)
+
+pub returns-in-Cached-clause-means : goal.returns-in-Cached-clause-means
+returns-in-Cached-clause-means c now s rest held k =
+    let a = c.args in
+    let core = rest.consistent.core in
+    let there : LinkAt s (peer_at s a.link) a.link = record { below = held.there; peer = refl } in
+    means-known-ihave now s (peer_at s a.link) a.link core there (ihaves_value a.ihaves)
+    (subst (λ (r : DecidedRows). EntriesFor (peer_at s a.link) a.ihaves (settled now s) r) c.in-Cached.is k (there-settled now s (peer_at s a.link) a.link core there) held.few)

@@ -28,9 +28,19 @@ broadcast_sizes-requires c =
     let k = known (goal.at.broadcast_sizes-requires c).Start c.in-Broadcast.is in
     (k.rest, k.decided)
 
+pub ihave_sizes-requires : goal.ihave_sizes-requires
+ihave_sizes-requires c =
+    let k = known (goal.at.ihave_sizes-requires c).Start c.in-IHave.is in
+    record { rest = k.rest; decided = k.decided; few = k.held.few }
+
 pub dispatch_sizes-requires : goal.dispatch_sizes-requires
 dispatch_sizes-requires c =
     let k = known (goal.at.dispatch_sizes-requires c).Start c.in-DispatchLazyPush.is in
+    (k.rest, k.decided)
+
+pub announce_sizes-requires : goal.announce_sizes-requires
+announce_sizes-requires c =
+    let k = known (goal.at.announce_sizes-requires c).Start c.in-AnnounceDropped.is in
     (k.rest, k.decided)
 
 pub returns-in-Graft : goal.returns-in-Graft

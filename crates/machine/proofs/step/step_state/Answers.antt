@@ -39,7 +39,7 @@ pub on_ihave-requires : goal.on_ihave-requires
 unfolding step_state
 on_ihave-requires c =
     let k = known (goal.at.on_ihave-requires c).Start c.in-IHave.is in
-    (record { rest = k.allowed.rest; fits = k.allowed.fits }, k.held.there)
+    record { allowed = (record { rest = k.allowed.rest; fits = k.allowed.fits }, k.held.there); decided = k.decided; few = k.held.few }
 
 pub broadcast-requires : goal.broadcast-requires
 unfolding step_state
@@ -63,7 +63,7 @@ pub on_announce_dropped_timer-requires : goal.on_announce_dropped_timer-requires
 unfolding step_state
 on_announce_dropped_timer-requires c =
     let k = known (goal.at.on_announce_dropped_timer-requires c).Start c.in-AnnounceDropped.is in
-    record { rest = k.allowed.rest; fits = k.allowed.fits }
+    record { step = record { rest = k.allowed.rest; fits = k.allowed.fits }; cached = k.decided }
 
 pub returns-in-Graft : goal.returns-in-Graft
 unfolding step_state

@@ -1,6 +1,11 @@
--- `find_rooms`: by those to whom the call can send.
-use Rattle.plumtree.proofs.RoomLaws.{found-unsent, found-links, found-all}
+-- `find_rooms`: without entries no peer has a bound; else by those to whom the call can send.
+use Rattle.std.proofs.Common.{sym, length, ◌∙◌, eqb-true}
+use Rattle.plumtree.proofs.RoomLaws.{found-none, found-unsent, found-links, found-all}
 use Rattle.plumtree.proofs.rooms.find_rooms.Goals as goal
+
+pub returns-then-is_empty : goal.returns-then-is_empty
+returns-then-is_empty c =
+    found-none c.args.block.now c.args.event.now c.args.rooms.now _ (eqb-true (length c.args.rooms.now) 0 (sym c.is_empty.ensures ∙ c.if-is_empty.true)) c.requires
 
 pub returns-in-Nobody : goal.returns-in-Nobody
 returns-in-Nobody c = found-unsent c.args.block.now c.args.event.now c.args.rooms.now _ c.in-Nobody.ensures

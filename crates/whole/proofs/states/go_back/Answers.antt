@@ -4,7 +4,8 @@ use Rattle.std.proofs.lemmas.Result.{err_from_is_err_and}
 use Rattle.storage.specs.Rows.Part.{part}
 use Rattle.whole.specs.Held.{whole_block}
 use Rattle.whole.specs.States.Area.{kept, area_holds}
-use Rattle.whole.specs.States.Calls.{Placed, Returns, counts_of}
+use Rattle.whole.specs.States.Calls.{Placed, Returns}
+use Rattle.whole.specs.Stats.{counts_of}
 use Rattle.whole.proofs.StatesLaws.Slots.{slot-end}
 use Rattle.whole.proofs.StatesLaws.HoldsLaws.{holds_of}
 use Rattle.whole.proofs.StatesLaws.CallLaws.{less, asked_yes, returns-refused, returns-15, returns-0}

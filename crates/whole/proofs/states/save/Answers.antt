@@ -4,7 +4,8 @@ use Rattle.std.proofs.lemmas.Result.{err_from_is_err_and}
 use Rattle.whole.specs.Held.{whole_block}
 use Rattle.whole.specs.States.Kept.{Kept}
 use Rattle.whole.specs.States.Area.{kept, row_bytes, area_holds}
-use Rattle.whole.specs.States.Calls.{Placed, Saves, counts_of}
+use Rattle.whole.specs.States.Calls.{Placed, Saves}
+use Rattle.whole.specs.Stats.{counts_of}
 use Rattle.whole.proofs.StatesLaws.Slots.{slot-end}
 use Rattle.whole.proofs.StatesLaws.AreaLaws.{length-row}
 use Rattle.whole.proofs.StatesLaws.HoldsLaws.{holds_of}

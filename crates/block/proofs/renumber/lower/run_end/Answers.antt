@@ -1,9 +1,7 @@
--- `lower::run_end`: the numbers before j are others.
-use Rattle.block.proofs.NeighboursLaws.LoweredRuns.{others-none, others-more}
+-- `lower::run_end`: the numbers before `start` are others.
+use Rattle.std.proofs.Common.{arith}
+use Rattle.block.proofs.NeighboursLaws.LoweredRuns.{others-none}
 use Rattle.block.proofs.renumber.lower.run_end.Goals as goal
 
-pub loop-j-init : goal.loop-j-init
-loop-j-init c = others-none c.args.i c.args.from c.args.bytes.now
-
-pub loop-j-preserved : goal.loop-j-preserved
-loop-j-preserved c = others-more c.args.i c.args.from c.loop-j.j c.args.bytes.now c.loop-j.invariant c.if-bytes-j.false
+pub loop-start-init : goal.loop-start-init
+loop-start-init c = (omega arith, omega arith, others-none c.args.i c.args.from c.args.bytes.now)

@@ -65,6 +65,11 @@ returns-in-Graft g c =
     let d = (goal.at.returns-in-Graft g c).After-first_event_actions in
     done g d (as-step g d c.in-Graft.is) c.graft_actions.ensures
 
+pub ihave_actions-requires : goal.ihave_actions-requires
+ihave_actions-requires g c =
+    let a = c.args.self.now in
+    subst (λ (r : Step). StepDecided a.call.now r (settled a.call.now.instant.0 (shown a.view.now))) c.in-IHave.is a.decided
+
 pub returns-in-IHave : goal.returns-in-IHave
 unfolding step_actions
 returns-in-IHave g c =
@@ -99,6 +104,11 @@ unfolding step_actions
 returns-in-EvictCache g c =
     let d = (goal.at.returns-in-EvictCache g c).After-first_event_actions in
     done g d (as-step g d c.in-EvictCache.is) c.evict_actions.ensures
+
+pub announce_actions-requires : goal.announce_actions-requires
+announce_actions-requires g c =
+    let a = c.args.self.now in
+    record { rest = a.rest; cached = subst (λ (r : Step). StepDecided a.call.now r (settled a.call.now.instant.0 (shown a.view.now))) c.in-AnnounceDropped.is a.decided }
 
 pub returns-in-AnnounceDropped : goal.returns-in-AnnounceDropped
 unfolding step_actions

@@ -1,0 +1,9 @@
+-- `event_limit_met` meets its contract: by what questions 10 to 13 find, once the rows are decided.
+use Rattle.machine.proofs.Words.{◌∙◌, ap, shown}
+use Rattle.protocol.specs.State.{zero_counts}
+use Rattle.machine.specs.Decided.{limit_found}
+use Rattle.machine.proofs.limit_met.event_limit_met.Goals as goal
+
+pub returns-in-Nothing : goal.returns-in-Nothing
+unfolding zero_counts
+returns-in-Nothing c = c.plan_limit.ensures c.args.call.now (shown c.args.view.now) ∙ ap limit_found c.event_plan.ensures.plan
